@@ -1,0 +1,5 @@
+pub mod Rules
+pub mod Tree
+pub mod Node
+pub mod Questions
+pub mod Encode

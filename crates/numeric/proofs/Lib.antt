@@ -1,0 +1,4 @@
+pub mod Nan
+pub mod Identity
+pub mod Vectors
+pub mod PostFits

@@ -1,0 +1,5 @@
+pub mod Kinds
+pub mod Instruction
+pub mod Program
+pub mod Image
+pub mod Fits

@@ -1,0 +1,56 @@
+-- The nine questions, the answer of a call, and what output and workspace hold afterwards. Definitions only.
+use mathlib.Core.Bool.{cond}
+use mathlib.Core.List.{List, _++_}
+use Prim.Native.Nat.{ℕ, zero, suc}
+use lib.Dec.{eqb, leb}
+use lib.ListN.{length, drop, replicate}
+use Rattle.wire.specs.Bytes.{be8}
+use Rattle.ast.specs.Node.{parse}
+use Rattle.ast.specs.Questions.{questions}
+use Rattle.program.specs.Image.{image}
+use Rattle.semantics.specs.Rule.{Settings}
+use Rattle.semantics.specs.State.{first}
+use Rattle.semantics.specs.Link.{lowered, program}
+
+-- 01, The tree image: "Arrays byte (0 Unresolved, 1 FromHost). Divisor byte (0 Signed, 1 Absolute)"
+unfoldable pub settings : List ℕ → Settings
+settings s = record { fromHost = eqb (be8 s 0 5) 1; absolute = eqb (be8 s 0 6) 1 }
+
+-- questions 2 to 8: the number of the first that is answered by no, else 0
+unfoldable pub refusalOf : List ℕ → ℕ
+refusalOf s = first (questions s) (lowered (settings s) (parse s) .state .refusal)
+
+-- the program image of a tree image
+unfoldable pub programImage : List ℕ → List ℕ
+programImage s = image (program (settings s) (parse s))
+
+-- 01, Nine questions: "A refusal returns its number and length 0. Acceptance returns 0 and the length"
+pub record Answer : Type 0 where
+  pub number : ℕ
+  pub length : ℕ
+
+-- 01, Nine questions, 9: "Is the output at least as long as the program image? No: 9."
+unfoldable pub answerFrom : ℕ → ℕ → ℕ → Answer
+answerFrom zero n room = cond (leb n room) (record { number = 0; length = n }) (record { number = 9; length = 0 })
+answerFrom (suc r) n room = record { number = suc r; length = 0 }
+
+-- 01, Nine questions, 1: "Has the workspace 16,384 words or more? No: 1."; by the tree image, the workspace's length and the output's
+unfoldable pub answer : List ℕ → ℕ → ℕ → Answer
+answer s words room = cond (leb 16384 words) (answerFrom (refusalOf s) (length (programImage s)) room) (record { number = 1; length = 0 })
+
+-- 01, Nine questions: "output beyond it is unchanged"; a refusal changes no byte
+unfoldable pub written : ℕ → List ℕ → List ℕ → List ℕ
+written zero card out = card ++ drop (length card) out
+written (suc r) card out = out
+
+unfoldable pub outputAfter : List ℕ → ℕ → List ℕ → List ℕ
+outputAfter s words out = written (answer s words (length out) .number) (programImage s) out
+
+-- 01, Nine questions: "The workspace's first 16,384 words are zero afterwards, and later words unchanged; after 1 all are unchanged."
+unfoldable pub workspaceAfter : List ℕ → List ℕ
+workspaceAfter words = cond (leb 16384 (length words)) (replicate 16384 0 ++ drop 16384 words) words
+
+-- opens all that an answer rests on where an example is computed
+unfoldable pub answer-opens : Unit {0}
+unfolding Rattle.wire.specs.Bytes.bytes-opens Rattle.wire.specs.Reader.reader-opens Rattle.numeric.specs.Post.post-opens Rattle.ast.specs.Rules.rules-opens Rattle.ast.specs.Node.tree-opens Rattle.ast.specs.Questions.questions-opens Rattle.program.specs.Image.image-opens Rattle.semantics.specs.Positions.pool-opens Rattle.semantics.specs.Rule.rule-opens Rattle.semantics.specs.Payloads.payload-opens Rattle.semantics.specs.Run.opens Rattle.semantics.specs.Walk.few Rattle.semantics.specs.State.state-opens Rattle.semantics.specs.Pieces.pieces-opens Rattle.semantics.specs.Lowering.lowering-opens Rattle.semantics.specs.Link.link-opens settings refusalOf programImage answerFrom answer
+answer-opens = tt

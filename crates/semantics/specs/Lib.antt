@@ -1,0 +1,14 @@
+pub mod Positions
+pub mod Rule
+pub mod Payloads
+pub mod Run
+pub mod Walk
+pub mod Machine
+pub mod State
+pub mod Pieces
+pub mod Lowering
+pub mod Link
+pub mod Answer
+pub mod Demand3
+pub mod Examples
+pub mod BenchPieces

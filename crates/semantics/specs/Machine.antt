@@ -1,0 +1,188 @@
+-- The step machine over a program. Definitions only.
+use mathlib.Core.Bool.{Bool, true, false}
+use mathlib.Core.List.{List, [], _∷_, tail}
+use mathlib.Core.Option.{Option, some, none}
+use Prim.Native.Nat.{ℕ, zero, suc, pred}
+use lib.ListN.{length}
+use Rattle.program.specs.Instruction.{Plain, const, hash, resource, this, negate, not, andLast, orLast, post, pointerLeave, storeVar, storeTemp, storeMember, cmpConst, eqConst, eqHash, addAcc, Taking, addLast, mul, div, cmp, eq, hostMath, Reading, loadVar, loadTemp, loadCtx, arrayElement, member, Guard, divGuard, andStep, orStep, pointerEnter, jumpIfFalsy, EachNext, eachNextVar, eachNextTemp, Instruction, plain, taking, reading, guard, push, loopEnd, halt, end, pushConst, jump, handlerPush, handlerPop, loopBegin, loopCheck, eachBegin, return, eachNext, call}
+use Rattle.program.specs.Program.{Counts, StoreRoot, rootVar, rootTemp, rootOther, Program, codeAt, constAt, postAt, hashAt, nameAt, slotAt, memberAt, storeAt, callAt, startAt}
+use Rattle.semantics.specs.Run.{Action, eConst, eHash, eResource, eThis, eNegate, eNot, eAndLast, eOrLast, ePost, ePointerLeave, eReturn, eAddLast, eMul, eDiv, eAndStep, eOrStep, ePointerEnter, eStoreVar, eStoreTemp, eLoadVar, eLoadTemp, eLoadCtx, eArrayElement, eMember, eCmp, eEq, eStoreMember, eCmpConst, eEqConst, eEqHash, eHostMath, eCall, ePush, eAddAcc, eJumpIfFalsy, eLoopBegin, eLoopCheck, eLoopEnd, eEachBegin, eHalt, eDivGuard, eEachNextVar, eEachNextTemp, Run, set-counts, note, note-argument, operand+, operands-, handler+, handler-, opens, closes, count, pick, draw, Ending, byEnd, byReturn, byHalt, byOut, Result, result, begin}
+
+-- 01, Walk: "Names and members show their own hash, .. a store its root's kind, its root's hash unless Other, and its path"
+unfoldable pub rootAt : Program → StoreRoot → StoreRoot
+rootAt P (rootVar n) = rootVar (nameAt P n)
+rootAt P (rootTemp t) = rootTemp (nameAt P (slotAt P t))
+rootAt P rootOther = rootOther
+
+unfoldable pub plainAction : Program → Plain → Action
+plainAction P (const c) = eConst (constAt P c)
+plainAction P (hash h) = eHash (hashAt P h)
+plainAction P (resource h) = eResource (hashAt P h)
+plainAction P (this p) = eThis (postAt P p)
+plainAction P (negate p) = eNegate (postAt P p)
+plainAction P (not p) = eNot (postAt P p)
+plainAction P (andLast p) = eAndLast (postAt P p)
+plainAction P (orLast p) = eOrLast (postAt P p)
+plainAction P (post p) = ePost (postAt P p)
+plainAction P (pointerLeave p) = ePointerLeave (postAt P p)
+plainAction P (storeVar n p) = eStoreVar (nameAt P n) (postAt P p)
+plainAction P (storeTemp t p) = eStoreTemp (nameAt P (slotAt P t)) (postAt P p)
+plainAction P (storeMember s p) = eStoreMember (rootAt P (storeAt P s .root)) (storeAt P s .path) (postAt P p)
+plainAction P (cmpConst o c p) = eCmpConst o (constAt P c) (postAt P p)
+plainAction P (eqConst o c p) = eEqConst o (constAt P c) (postAt P p)
+plainAction P (eqHash o h p) = eEqHash o (hashAt P h) (postAt P p)
+plainAction P addAcc = eAddAcc
+
+unfoldable pub takingAction : Program → Taking → Action
+takingAction P (addLast p) = eAddLast (postAt P p)
+takingAction P (mul p) = eMul (postAt P p)
+takingAction P (div p) = eDiv (postAt P p)
+takingAction P (cmp o p) = eCmp o (postAt P p)
+takingAction P (eq o p) = eEq o (postAt P p)
+takingAction P (hostMath f n p) = eHostMath f n (postAt P p)
+
+-- 01, Walk: "AddLast, Mul, Div, Cmp and Eq take one, HostMath argc less one"
+unfoldable pub taken : Taking → ℕ
+taken (addLast p) = 1
+taken (mul p) = 1
+taken (div p) = 1
+taken (cmp o p) = 1
+taken (eq o p) = 1
+taken (hostMath f n p) = pred n
+
+unfoldable pub readingAction : Program → Reading → Action
+readingAction P (loadVar n p) = eLoadVar (nameAt P n) (postAt P p)
+readingAction P (loadTemp t p) = eLoadTemp (nameAt P (slotAt P t)) (postAt P p)
+readingAction P (loadCtx n p) = eLoadCtx (nameAt P n) (postAt P p)
+readingAction P (arrayElement n p) = eArrayElement (nameAt P n) (postAt P p)
+readingAction P (member m p) = eMember (memberAt P m) (postAt P p)
+
+unfoldable pub guardAction : Program → Guard → Action
+guardAction P (divGuard d) = eDivGuard d
+guardAction P (andStep p) = eAndStep (postAt P p)
+guardAction P (orStep p) = eOrStep (postAt P p)
+guardAction P (pointerEnter p) = ePointerEnter (postAt P p)
+guardAction P jumpIfFalsy = eJumpIfFalsy
+
+-- 01, Walk: "DivGuard going on .. add an operand"
+unfoldable pub guardUp : Guard → Counts → Counts
+guardUp (divGuard d) c = operand+ c
+guardUp (andStep p) c = c
+guardUp (orStep p) c = c
+guardUp (pointerEnter p) c = c
+guardUp jumpIfFalsy c = c
+
+unfoldable pub eachAction : Program → EachNext → Action
+eachAction P (eachNextVar n) = eEachNextVar (nameAt P n)
+eachAction P (eachNextTemp t) = eEachNextTemp (nameAt P (slotAt P t))
+
+-- what is open in a segment: a loop (with LoopBegin's operand or not) and the counts just after its start, a handler, its target and
+-- the counts before its HandlerPush
+pub data Open : Type 0 where
+  loop : Bool → Counts → Open
+  handler : ℕ → Counts → Open
+
+-- a call whose argument runs: where it goes on, its number, the arguments left, the next one's number, its counts and what is open there
+pub record Frame : Type 0 where
+  pub back : ℕ
+  pub callee : ℕ
+  pub todo : ℕ
+  pub number : ℕ
+  pub counts : Counts
+  pub control : List Open
+
+-- the next instruction, the run, what is open in this segment (innermost first), the calls around it
+pub record Machine : Type 0 where
+  pub pc : ℕ
+  pub run : Run
+  pub control : List Open
+  pub frames : List Frame
+
+abbrev pub machine : ℕ → Run → List Open → List Frame → Machine
+machine n w es fs = record { pc = n; run = w; control = es; frames = fs }
+
+pub data Next : Type 0 where
+  go : Machine → Next
+  stop : Result → Next
+
+abbrev pub dry : Run → Next
+dry w = stop (result byOut w)
+
+-- 01, Walk: "A missing value goes to the innermost handler of its segment, counts cut back to those before its HandlerPush; with none, on."
+unfoldable pub missed : List Open → Run → List Frame → Next → Next
+missed [] w fs on = on
+missed (loop k c ∷ es) w fs on = missed es w fs on
+missed (handler t c ∷ es) w fs on = go (machine t (set-counts c w) es fs)
+
+abbrev pub perhaps : ℕ → Run → List Open → List Frame → Next
+perhaps n w es fs = draw w dry (λ w. go (machine n w es fs)) (λ w. missed es w fs (go (machine n w es fs)))
+
+-- the handlers inside the innermost loop dropped
+unfoldable pub cut : List Open → List Open
+cut [] = []
+cut (loop k c ∷ es) = loop k c ∷ es
+cut (handler t c ∷ es) = cut es
+
+-- 01, Walk: "Before they log, LoopCheck, EachNext and LoopEnd cut back to just after the loop's start"
+unfoldable pub check : Action → ℕ → ℕ → Run → List Frame → List Open → Next
+check a yes-to no-to w fs [] = stop (result byHalt w)
+check a yes-to no-to w fs (handler u c ∷ es) = stop (result byHalt w)
+check a yes-to no-to w fs (loop k c ∷ es) = draw (note a (set-counts c w)) dry (λ w. go (machine yes-to w (loop k c ∷ es) fs)) (λ w. go (machine no-to w (loop k c ∷ es) fs))
+
+unfoldable pub close : ℕ → Run → List Frame → List Open → Next
+close n w fs [] = stop (result byHalt w)
+close n w fs (handler u c ∷ es) = stop (result byHalt w)
+close n w fs (loop k c ∷ es) = go (machine n (set-counts (closes k c) (note eLoopEnd (set-counts c w))) es fs)
+
+abbrev pub open-loop : Bool → ℕ → Run → List Open → List Frame → Next
+open-loop k n w es fs = go (machine n (count (opens k) w) (loop k (opens k (w .counts)) ∷ es) fs)
+
+-- 01, Walk: "Call logs, runs its arguments in order from the counts open there, .. and only then draws": call k with `todo` arguments left
+unfoldable pub enter : Program → ℕ → (todo : ℕ) → ℕ → ℕ → Run → List Open → List Frame → Next
+enter P k zero j n w es fs = perhaps n w es fs
+enter P k (suc m) j n w es fs = go (machine (startAt P k j) (note-argument j w) [] (record { back = n; callee = k; todo = m; number = suc j; counts = w .counts; control = es } ∷ fs))
+
+-- 01, Walk: "Return or End ends its segment and restores the counts there."
+unfoldable pub leave : Program → Ending → Run → List Frame → Next
+leave P e w [] = stop (result e w)
+leave P e w (f ∷ fs) = enter P (f .callee) (f .todo) (f .number) (f .back) (set-counts (f .counts) w) (f .control) fs
+
+-- one instruction at n; "Jump, HandlerPush, HandlerPop and End log nothing; PushConst logs and does Push, then logs and does Const"
+unfoldable pub execute : Program → Instruction → ℕ → Run → List Open → List Frame → Next
+execute P (plain i) n w es fs = go (machine (suc n) (note (plainAction P i) w) es fs)
+execute P (taking i) n w es fs = go (machine (suc n) (count (operands- (taken i)) (note (takingAction P i) w)) es fs)
+execute P (reading i) n w es fs = perhaps (suc n) (note (readingAction P i) w) es fs
+execute P (guard g t) n w es fs = draw (note (guardAction P g) w) dry (λ w. go (machine (suc n) (count (guardUp g) w) es fs)) (λ w. go (machine t w es fs))
+execute P push n w es fs = go (machine (suc n) (count operand+ (note ePush w)) es fs)
+execute P (pushConst c) n w es fs = go (machine (suc n) (note (eConst (constAt P c)) (count operand+ (note ePush w))) es fs)
+execute P (jump t) n w es fs = go (machine t w es fs)
+execute P (handlerPush t) n w es fs = go (machine (suc n) (count handler+ w) (handler t (w .counts) ∷ es) fs)
+execute P (handlerPop t) n w es fs = go (machine t (count handler- w) (tail es) fs)
+execute P (loopBegin t) n w es fs = draw (note eLoopBegin w) dry (λ w. open-loop true (suc n) w es fs) (λ w. go (machine t w es fs))
+execute P (eachBegin t) n w es fs = draw (note eEachBegin w) dry (λ w. open-loop false (suc n) w es fs) (λ w. go (machine t w es fs))
+execute P (loopCheck t) n w es fs = check eLoopCheck t (suc n) w fs (cut es)
+execute P (eachNext i t) n w es fs = check (eachAction P i) (suc n) t w fs (cut es)
+execute P loopEnd n w es fs = close (suc n) w fs (cut es)
+execute P (call k p) n w es fs = enter P k (length (callAt P k .starts)) 0 (suc n) (note (eCall (callAt P k .index) (callAt P k .impl) (length (callAt P k .starts)) (postAt P p)) w) es fs
+execute P (return p) n w es fs = leave P byReturn (note (eReturn (postAt P p)) w) fs
+execute P halt n w es fs = stop (result byHalt (note eHalt w))
+execute P end n w es fs = leave P byEnd w fs
+
+unfoldable pub step : Program → Machine → Next
+step P m = execute P (codeAt P (m .pc)) (m .pc) (m .run) (m .control) (m .frames)
+
+-- n steps on, the result if the machine has stopped
+unfoldable pub follow : Program → ℕ → Next → Option Result
+follow P zero (stop r) = some r
+follow P zero (go m) = none
+follow P (suc n) (stop r) = some r
+follow P (suc n) (go m) = follow P n (step P m)
+
+-- 01, Walk: "and the step machine at the first instruction of the image written, both with nothing open and with the same outcomes"
+abbrev pub start : List Bool → Next
+start outcomes = go (machine 0 (begin outcomes) [] [])
+
+-- opens the step machine where an example is computed
+unfoldable pub machine-opens : Unit {0}
+unfolding rootAt plainAction takingAction taken readingAction guardAction guardUp eachAction missed cut check close enter leave execute step follow
+machine-opens = tt

@@ -1,0 +1,161 @@
+-- Pieces of lowering and how they are put together: code, pools, jumps. Definitions only.
+use mathlib.Core.Bool.{Bool, true, false}
+use mathlib.Core.List.{List, [], _∷_, _++_, map}
+use Prim.Native.Nat.{ℕ, zero, suc}
+use lib.ListN.{length}
+use native.Mathlib.Decide.{ℕ-discrete}
+use Rattle.numeric.specs.Post.{Post, isIdentity}
+use Rattle.ast.specs.Tree.{Name}
+use Rattle.program.specs.Instruction.{const, post, Guard, EachNext, Instruction, plain, guard, push, loopEnd, halt, pushConst, jump, loopBegin, loopCheck, eachBegin, eachNext}
+use Rattle.program.specs.Program.{Counts, MemberStore}
+use Rattle.semantics.specs.Positions.{past, slot, intern, pair-discrete}
+use Rattle.semantics.specs.Run.{operand+, opens}
+use Rattle.semantics.specs.State.{Item, instr, toCleanup, toCheck, MemberRead, Pools, set-consts, set-posts, set-hashes, set-names, set-temps, set-members, set-stores, Flags, sets, State, set-pools, set-flags, raise, fail}
+
+-- the code of a piece, and the state after it
+pub record Lowered : Type 0 where
+  pub code : List Item
+  pub state : State
+
+abbrev pub emit : List Item → State → Lowered
+emit c s = record { code = c; state = s }
+
+-- a piece: from the open counts, whether a Push waits, the position in the segment and the state
+abbrev pub Lowering : Type 0
+Lowering = Counts → Bool → ℕ → State → Lowered
+
+-- a Push that waits comes before anything that is no constant
+unfoldable pub flush : (ℕ → State → Lowered) → Bool → ℕ → State → Lowered
+flush f false n s = f n s
+flush f true n s = emit (instr push ∷ f (suc n) s .code) (f (suc n) s .state)
+
+abbrev pub put : Instruction → Lowering
+put i c = flush λ n s. emit (instr i ∷ []) s
+
+abbrev pub nothing : Lowering
+nothing c = flush λ n s. emit [] s
+
+-- a refusal stays in the state and lowering goes on; no refused program is looked at
+abbrev pub failing : ℕ → Lowering
+failing r c = flush λ n s. emit [] (fail r s)
+
+-- 01, Modules, code.rs: "Const after Push becomes PushConst unless a label stands between": no rule puts a label behind a Push
+unfoldable pub putConst : ℕ → Lowering
+putConst k c false n s = emit (instr (plain (const k)) ∷ []) s
+putConst k c true n s = emit (instr (pushConst k) ∷ []) s
+
+infixr 50 _⨾_
+abbrev pub _⨾_ : Lowering → Lowering → Lowering
+_⨾_ f g c b n s =
+    let x = f c b n s in
+    let y = g c false (past (x .code) n) (x .state) in
+    emit (x .code ++ y .code) (y .state)
+
+-- f, Push, g
+abbrev pub pushed : Lowering → Lowering → Lowering
+pushed f g c b n s =
+    let x = f c b n s in
+    let y = g (operand+ c) true (past (x .code) n) (raise (operand+ c) (x .state)) in
+    emit (x .code ++ y .code) (y .state)
+
+abbrev pub flagged : (Flags → Flags) → Lowering → Lowering
+flagged m f c b n s = f c b n (set-flags (m (s .flags)) s)
+
+-- 01, Modules, pools.rs: "consts by bits, posts by both bit patterns, names by hash (first text stays), members by (own, outermost)
+-- hashes. Stores and calls are never merged."
+abbrev pub itself : ℕ → ℕ
+itself n = n
+
+abbrev pub withConst : ℕ → (ℕ → Lowering) → Lowering
+withConst v f c b n s = f (slot itself ℕ-discrete v 0 (s .pools .consts)) c b n (set-pools (set-consts (intern itself ℕ-discrete v (s .pools .consts)) (s .pools)) s)
+
+abbrev pub withHash : ℕ → (ℕ → Lowering) → Lowering
+withHash v f c b n s = f (slot itself ℕ-discrete v 0 (s .pools .hashes)) c b n (set-pools (set-hashes (intern itself ℕ-discrete v (s .pools .hashes)) (s .pools)) s)
+
+abbrev pub hashKey : Name → ℕ
+hashKey n = n .hash
+
+abbrev pub withName : Name → (ℕ → Lowering) → Lowering
+withName v f c b n s = f (slot hashKey ℕ-discrete v 0 (s .pools .names)) c b n (set-pools (set-names (intern hashKey ℕ-discrete v (s .pools .names)) (s .pools)) s)
+
+abbrev pub withSlot : ℕ → (ℕ → Lowering) → Lowering
+withSlot v f c b n s = f (slot itself ℕ-discrete v 0 (s .pools .temps)) c b n (set-pools (set-temps (intern itself ℕ-discrete v (s .pools .temps)) (s .pools)) s)
+
+-- a temp: its name first, then its slot; USES_TEMPS
+abbrev pub withTemp : Name → (ℕ → Lowering) → Lowering
+withTemp v f = flagged (sets 4) (withName v λ k. withSlot k f)
+
+abbrev pub readKey : MemberRead → ℕ × ℕ
+readKey r = (r .own .hash, r .last .hash)
+
+abbrev pub withMember : MemberRead → (ℕ → Lowering) → Lowering
+withMember v f c b n s = f (slot readKey pair-discrete v 0 (s .pools .members)) c b n (set-pools (set-members (intern readKey pair-discrete v (s .pools .members)) (s .pools)) s)
+
+abbrev pub withStore : MemberStore → (ℕ → Lowering) → Lowering
+withStore v f c b n s = f (length (s .pools .stores)) c b n (set-pools (set-stores (s .pools .stores ++ (v ∷ [])) (s .pools)) s)
+
+abbrev pub postKey : Post → ℕ × ℕ
+postKey p = (p .scale, p .offset)
+
+-- the identity is slot 0, and is not looked up
+unfoldable pub post-if : Bool → Post → (ℕ → Lowering) → Lowering
+post-if true v f c b n s = f 0 c b n s
+post-if false v f c b n s = f (suc (slot postKey pair-discrete v 0 (s .pools .posts))) c b n (set-pools (set-posts (intern postKey pair-discrete v (s .pools .posts)) (s .pools)) s)
+
+abbrev pub withPost : Post → (ℕ → Lowering) → Lowering
+withPost v = post-if (isIdentity v) v
+
+abbrev pub constant : ℕ → Lowering
+constant v = withConst v putConst
+
+-- a Post behind a branch, nothing for the identity
+unfoldable pub postInstruction-if : Bool → Post → Lowering
+postInstruction-if true v = nothing
+postInstruction-if false v = withPost v λ p. put (plain (post p))
+
+abbrev pub postInstruction : Post → Lowering
+postInstruction v = postInstruction-if (isIdentity v) v
+
+-- a guard whose target is what follows f
+abbrev pub guarded : Guard → (Counts → Counts) → Lowering → Lowering
+guarded g up f c = flush λ n s.
+    let x = f (up c) false (suc n) (raise (up c) s) in
+    emit (instr (guard g (past (x .code) (suc n))) ∷ x .code) (x .state)
+
+-- i to g, f, j to what follows g, g
+abbrev pub fork : (ℕ → Instruction) → (ℕ → Instruction) → (Counts → Counts) → Lowering → Lowering → Lowering
+fork i j up f g c = flush λ n s.
+    let x = f (up c) false (suc n) (raise (up c) s) in
+    let m = past (x .code) (suc n) in
+    let y = g c false (suc m) (x .state) in
+    emit (instr (i (suc m)) ∷ (x .code ++ (instr (j (past (y .code) (suc m))) ∷ y .code))) (y .state)
+
+-- the breaks and continues of a loop's body
+abbrev pub aim : ℕ → ℕ → Item → Item
+aim check-at cleanup-at (instr i) = instr i
+aim check-at cleanup-at toCleanup = instr (jump cleanup-at)
+aim check-at cleanup-at toCheck = instr (jump check-at)
+
+-- LoopBegin to the exit, the body, LoopCheck back to the body, LoopEnd
+abbrev pub looped : Lowering → Lowering
+looped f c = flush λ n s.
+    let x = f (opens true c) false (suc n) (raise (opens true c) s) in
+    let check-at = past (x .code) (suc n) in
+    emit (instr (loopBegin (suc (suc check-at))) ∷ (map (aim check-at (suc check-at)) (x .code) ++ (instr (loopCheck (suc n)) ∷ instr loopEnd ∷ []))) (x .state)
+
+-- EachBegin to the exit, EachNext to LoopEnd, the body, a Jump back to EachNext, LoopEnd
+abbrev pub eached : EachNext → Lowering → Lowering
+eached i f c = flush λ n s.
+    let x = f (opens false c) false (suc (suc n)) (raise (opens false c) s) in
+    let back = past (x .code) (suc (suc n)) in
+    emit (instr (eachBegin (suc (suc back))) ∷ instr (eachNext i (suc back)) ∷ (map (aim (suc n) (suc back)) (x .code) ++ (instr (jump (suc n)) ∷ instr loopEnd ∷ []))) (x .state)
+
+-- Break or Continue; 01, Walk: "With none open they log Halt."
+unfoldable pub jumps : Item → Bool → Lowering
+jumps i true c = flush λ n s. emit (i ∷ []) s
+jumps i false c = flush λ n s. emit (instr halt ∷ []) s
+
+-- opens the pieces of lowering where an example is computed
+unfoldable pub pieces-opens : Unit {0}
+unfolding flush putConst post-if postInstruction-if jumps
+pieces-opens = tt

@@ -1,0 +1,49 @@
+-- The rules, the rule of each operator code, and the two settings of a tree. Definitions only.
+use mathlib.Core.Bool.{Bool, true, false}
+use mathlib.Core.List.{List, [], _∷_}
+use Prim.Native.Nat.{ℕ}
+use lib.ListN.{getD}
+use Rattle.ast.specs.Rules.{ruleOf}
+
+-- the rules that no other rule looks at; a number is the sub, `logic` is of And or Or, `unary` of Negate or Not, `hostMath` volatile or not
+pub data Plain : Type 0 where
+  array usesArrays usesResources float string resource this load query : Plain
+  compare equal : ℕ → Plain
+  logic : Bool → Plain
+  coalesce conditional statements loop forEach break continue assign bracket : Plain
+  unary : Bool → Plain
+  add mul div : Plain
+  hostMath : Bool → Plain
+  generic refused : Plain
+
+-- Return differs in a statement list; member reads, EntityVariable and Pointer differ as an assignment's target
+pub data Rule : Type 0 where
+  return member entity pointer : Rule
+  plain : Plain → Rule
+
+-- 01, The tree image: "1 Array to 51 Comma in order of first mention in `expr`"; in front the unknown codes, behind the refused ones
+unfoldable pub rules : List Rule
+rules =
+    plain refused
+    ∷ plain array ∷ plain usesArrays ∷ plain usesArrays ∷ plain usesResources ∷ plain usesResources ∷ plain usesResources
+    ∷ plain float ∷ plain string ∷ plain resource ∷ plain resource ∷ plain resource ∷ plain this
+    ∷ entity ∷ plain load ∷ plain load ∷ member ∷ plain query
+    ∷ plain (compare 0) ∷ plain (compare 1) ∷ plain (compare 2) ∷ plain (compare 3) ∷ plain (equal 0) ∷ plain (equal 1) ∷ plain (logic true) ∷ plain (logic false)
+    ∷ plain coalesce ∷ plain conditional ∷ plain statements ∷ plain loop ∷ plain forEach ∷ plain break ∷ plain continue
+    ∷ plain assign ∷ pointer ∷ plain bracket ∷ plain bracket
+    ∷ plain (unary true) ∷ plain (unary false) ∷ plain add ∷ plain mul ∷ plain div ∷ plain (hostMath false) ∷ plain (hostMath true)
+    ∷ return ∷ plain generic ∷ plain generic ∷ plain generic ∷ plain generic ∷ plain generic ∷ plain generic ∷ plain generic
+    ∷ plain refused ∷ []
+
+unfoldable pub ruleAt : ℕ → Rule
+ruleAt op = getD rules (ruleOf op) (plain refused)
+
+-- 01, The tree image: "Arrays byte (0 Unresolved, 1 FromHost). Divisor byte (0 Signed, 1 Absolute)"
+pub record Settings : Type 0 where
+  pub fromHost : Bool
+  pub absolute : Bool
+
+-- opens the rule of a code where an example is computed
+unfoldable pub rule-opens : Unit {0}
+unfolding rules ruleAt
+rule-opens = tt

@@ -1,0 +1,306 @@
+-- The walk over the tree: it "follows the tree and knows no addresses" (01, Walk). Its pieces first, then each rule. Definitions only.
+use mathlib.Core.Bool.{Bool, true, false, cond}
+use mathlib.Core.List.{List, [], _∷_}
+use Prim.Native.Nat.{ℕ, zero, suc}
+use lib.Dec.{leb}
+use lib.ListN.{length}
+use Rattle.numeric.specs.Post.{Post, identity, isIdentity, fold}
+use Rattle.ast.specs.Tree.{Payload, Tree, node, Forest, nil, cons}
+use Rattle.program.specs.Program.{Counts, StoreRoot, rootVar, rootTemp, rootOther}
+use Rattle.semantics.specs.Rule as R
+use Rattle.semantics.specs.Rule.{Rule, ruleAt, Settings}
+use Rattle.semantics.specs.Payloads.{asName, asHash, asMath, asQuery, floatOf, constOf, stringOf, resourceOf, one, two, three, some, just, Path, path}
+use Rattle.semantics.specs.Run.{Action, eConst, eHash, eResource, eThis, eNegate, eNot, eAndLast, eOrLast, ePost, ePointerLeave, eReturn, eAddLast, eMul, eDiv, eAndStep, eOrStep, ePointerEnter, eStoreVar, eStoreTemp, eLoadVar, eLoadTemp, eLoadCtx, eArrayElement, eMember, eCmp, eEq, eStoreMember, eCmpConst, eEqConst, eEqHash, eHostMath, eCall, ePush, eAddAcc, eJumpIfFalsy, eLoopBegin, eLoopCheck, eLoopEnd, eEachBegin, eHalt, eDivGuard, eEachNextVar, eEachNextTemp, Run, set-counts, note, note-argument, operand+, operands-, handler+, handler-, same, opens, closes, count, pick, draw, byEnd, byReturn, byHalt, byOut, Result, result, begin}
+
+-- how a piece of the walk ends: it goes on, or a value is missing, Break, Continue, Return, Halt, or no outcome is left
+pub data Completion : Type 0 where
+  normal missing broke again returned halted out : Run → Completion
+
+abbrev pub Walking : Type 0
+Walking = Run → Completion
+
+-- is a loop open in this segment; is this inside the first child of a `??` in this segment
+pub record Scope : Type 0 where
+  pub loop : Bool
+  pub handler : Bool
+
+abbrev pub inside : Scope
+inside = record { loop = false; handler = false }
+
+abbrev pub in-loop : Scope → Scope
+in-loop e = record { loop = true; handler = e .handler }
+
+abbrev pub in-handler : Scope → Scope
+in-handler e = record { loop = e .loop; handler = true }
+
+infixr 50 _then_
+unfoldable pub after : Walking → Completion → Completion
+after v (normal w) = v w
+after v (missing w) = missing w
+after v (broke w) = broke w
+after v (again w) = again w
+after v (returned w) = returned w
+after v (halted w) = halted w
+after v (out w) = out w
+
+abbrev pub _then_ : Walking → Walking → Walking
+_then_ u v w = after v (u w)
+
+abbrev pub pass : Walking
+pass w = normal w
+
+abbrev pub logs : Action → Walking
+logs a w = normal (note a w)
+
+-- 01, Walk: "AddLast, Mul, Div, Cmp and Eq take one, HostMath argc less one"
+abbrev pub takes : ℕ → Action → Walking
+takes k a w = normal (count (operands- k) (note a w))
+
+abbrev pub pushes : Walking
+pushes w = normal (count operand+ (note ePush w))
+
+abbrev pub halts : Walking
+halts w = halted (note eHalt w)
+
+abbrev pub returns : Post → Walking
+returns p w = returned (note (eReturn p) w)
+
+-- 01, Walk: "A missing value breaks off the first child of the innermost `??` that holds it there in the same segment ..;
+-- where no such `??` is, the walk goes on"
+unfoldable pub misses : Bool → Walking
+misses true w = missing w
+misses false w = normal w
+
+abbrev pub perhaps : Scope → Walking
+perhaps e w = draw w out normal (misses (e .handler))
+
+abbrev pub loads : Scope → Action → Walking
+loads e a w = perhaps e (note a w)
+
+-- 01, Walk: "A no skips the rest of its Div, and/or or pointer up to the rule's label"
+abbrev pub guarded : Action → (Counts → Counts) → Walking → Walking
+guarded a up u w = draw (note a w) out (λ w. u (count up w)) normal
+
+-- 01, Walk: "a conditional then takes its other branch"
+abbrev pub branch : Walking → Walking → Walking
+branch u v w = draw (note eJumpIfFalsy w) out u v
+
+-- the first child of a `??` with its handler open; 01, Walk: "and that `??` visits its second child", from the counts before
+unfoldable pub otherwise : Counts → Walking → Completion → Completion
+otherwise c v (normal w) = normal (count handler- w)
+otherwise c v (missing w) = v (set-counts c w)
+otherwise c v (broke w) = broke w
+otherwise c v (again w) = again w
+otherwise c v (returned w) = returned w
+otherwise c v (halted w) = halted w
+otherwise c v (out w) = out w
+
+abbrev pub coalesce : Walking → Walking → Walking
+coalesce u v w = otherwise (w .counts) v (u (count handler+ w))
+
+-- 01, Walk: "Before they log, LoopCheck, EachNext and LoopEnd cut back to just after the loop's start", the counts c
+abbrev pub ends : Bool → Counts → Walking
+ends k c w = normal (set-counts (closes k c) (note eLoopEnd (set-counts c w)))
+
+-- what follows a body; 01, Walk: "Break leaves the innermost loop open in its segment, with LoopEnd, and Continue goes on with
+-- that loop's LoopCheck or EachNext"
+unfoldable pub round : Bool → Counts → Walking → Completion → Completion
+round k c next (normal w) = next w
+round k c next (missing w) = missing w
+round k c next (broke w) = ends k c w
+round k c next (again w) = next w
+round k c next (returned w) = returned w
+round k c next (halted w) = halted w
+round k c next (out w) = out w
+
+abbrev pub checks : Counts → Walking → Walking
+checks c more w = draw (note eLoopCheck (set-counts c w)) out more (ends true c)
+
+-- the rounds of a Loop, and of a ForEach; at most n more are answered by yes, so n is the number of outcomes left
+unfoldable pub rounds : Counts → Walking → ℕ → Walking
+rounds c body zero w = round true c (checks c out) (body w)
+rounds c body (suc n) w = round true c (checks c (rounds c body n)) (body w)
+
+unfoldable pub nexts : Action → Counts → Walking → ℕ → Walking
+nexts a c body zero w = draw (note a (set-counts c w)) out out (ends false c)
+nexts a c body (suc n) w = draw (note a (set-counts c w)) out (λ w. round false c (nexts a c body n) (body w)) (ends false c)
+
+-- 01, Walk: "a loop ends, with LoopEnd if it had been opened"
+abbrev pub begins : Action → Bool → (Counts → ℕ → Walking) → Walking
+begins a k inner w = draw (note a w) out (λ w. inner (opens k (w .counts)) (length (w .outcomes)) (count (opens k) w)) normal
+
+abbrev pub looped : Walking → Walking
+looped body = begins eLoopBegin true (λ c. rounds c body)
+
+abbrev pub eached : Action → Walking → Walking
+eached a body = begins eEachBegin false (λ c. nexts a c body)
+
+-- what a tree is as an expression, as a statement of a list, and as the base of a member path
+pub record Walkings : Type 0 where
+  pub expr : Scope → Walking
+  pub statement : Scope → Walking
+  pub base : Scope → Walking
+
+-- 01, Walk: "Return or End ends its segment and restores the counts there. Halt ends the whole run."
+unfoldable pub segment : Counts → Walking → Completion → Completion
+segment c rest (normal w) = rest (set-counts c w)
+segment c rest (missing w) = missing w
+segment c rest (broke w) = broke w
+segment c rest (again w) = again w
+segment c rest (returned w) = rest (set-counts c w)
+segment c rest (halted w) = halted w
+segment c rest (out w) = out w
+
+-- 01, Walk: "Call logs, runs its arguments in order from the counts open there, each first logging its number from 0 .., and only then draws"
+unfoldable pub arguments : ℕ → List Walkings → Walking → Walking
+arguments j [] rest = rest
+arguments j (a ∷ xs) rest = λ w. segment (w .counts) (arguments (suc j) xs rest) (a .expr inside (note-argument j w))
+
+-- 01, Walk: "an identity post slot 0's bits"
+unfoldable pub shown : Post → Post
+shown p = cond (isIdentity p) identity p
+
+unfoldable pub posted-if : Bool → Post → Walking
+posted-if true p = pass
+posted-if false p = logs (ePost p)
+
+abbrev pub posted : Post → Walking
+posted p = posted-if (isIdentity p) p
+
+-- 01, Walk: "With none open they log Halt."
+unfoldable pub jumps : Walking → Bool → Walking
+jumps to true = to
+jumps to false = halts
+
+unfoldable pub statements : ℕ → List Walkings → Scope → Walking
+statements o [] e = logs (eConst o)
+statements o (a ∷ xs) e = a .statement e then statements o xs e
+
+unfoldable pub junction : Action → Action → Walkings → List Walkings → Scope → Walking
+junction step last a [] e = a .expr e then logs last
+junction step last a (b ∷ xs) e = a .expr e then guarded step same (junction step last b xs e)
+
+unfoldable pub stepAction : Bool → Post → Action
+stepAction true p = eAndStep p
+stepAction false p = eOrStep p
+
+unfoldable pub lastAction : Bool → Post → Action
+lastAction true p = eAndLast p
+lastAction false p = eOrLast p
+
+unfoldable pub addition : Post → Walkings → List Walkings → Scope → Walking
+addition p a [] e = a .expr e then takes 1 (eAddLast p)
+addition p a (b ∷ xs) e = a .expr e then logs eAddAcc then addition p b xs e
+
+unfoldable pub hosted : ℕ → Action → Walkings → List Walkings → Scope → Walking
+hosted k h a [] e = a .expr e then takes k h
+hosted k h a (b ∷ xs) e = a .expr e then pushes then hosted k h b xs e
+
+-- 01, Bench pieces: "HostMath with 255 children passes, with 256 gives 7"
+unfoldable pub few : ℕ → Bool
+few n = leb n 255
+
+unfoldable pub unaryAction : Bool → Post → Action
+unaryAction true p = eNegate p
+unaryAction false p = eNot p
+
+-- 01, Walk: "a store its root's kind, its root's hash unless Other, and its path"
+unfoldable pub rootShown : Payload → StoreRoot
+rootShown v = asName 4 v (asName 5 v rootOther (λ n. rootTemp (n .hash))) (λ n. rootVar (n .hash))
+
+unfoldable pub stores : Payload → Path → Post → Walking
+stores v m p = asName 4 v (asName 5 v (logs (eStoreMember (rootShown (m .root)) (m .hashes) p)) (λ n. logs (eStoreTemp (n .hash) p))) (λ n. logs (eStoreVar (n .hash) p))
+
+-- 01, Walk: "It visits the children a rule lowers (not an assignment's target or a ForEach variable)"
+unfoldable pub target : Forest → Post → Walking
+target nil p = pass
+target (cons (node op q v us) ts) p = stores v (path (node op q v us)) p
+
+unfoldable pub eachOf : Payload → (Action → Walking) → Walking
+eachOf v f = asName 4 v (asName 5 v pass (λ n. f (eEachNextTemp (n .hash)))) (λ n. f (eEachNextVar (n .hash)))
+
+unfoldable pub variable : Forest → (Action → Walking) → Walking
+variable nil f = pass
+variable (cons (node op q v us) ts) f = eachOf v f
+
+unfoldable pub loaded : Payload → Post → Scope → Walking
+loaded v p e = asName 4 v (asName 5 v (asName 3 v pass (λ n. loads e (eLoadCtx (n .hash) p))) (λ n. loads e (eLoadTemp (n .hash) p))) (λ n. loads e (eLoadVar (n .hash) p))
+
+module _ (S : Settings) where
+  -- 01, Walk: "left to right, but Div's second first, and logs each node's events where its rule puts them"
+  unfoldable pub walkPlain : R.Plain → Post → Payload → Forest → List Walkings → Scope → Walking
+  walkPlain R.array p v ts xs e = just xs pass λ a. asName 7 v pass λ n. a .expr e then loads e (eArrayElement (n .hash) (shown p))
+  walkPlain R.usesArrays p v ts xs e = pass
+  walkPlain R.usesResources p v ts xs e = pass
+  walkPlain R.float p v ts xs e = logs (eConst (floatOf v))
+  walkPlain R.string p v ts xs e = logs (eHash (stringOf v))
+  walkPlain R.resource p v ts xs e = logs (eResource (resourceOf v))
+  walkPlain R.this p v ts xs e = logs (eThis (shown p))
+  walkPlain R.load p v ts xs e = loaded v (shown p) e
+  walkPlain R.query p v ts xs e = asQuery v pass λ i m w. arguments 0 xs (perhaps e) (note (eCall i m (length xs) (shown p)) w)
+  walkPlain (R.compare o) p v ts xs e = some xs pass λ a ys. some ys (a .expr e then logs (eCmpConst o (constOf v) (shown p))) λ b zs. a .expr e then pushes then b .expr e then takes 1 (eCmp o (shown p))
+  walkPlain (R.equal o) p v ts xs e = some xs pass λ a ys. some ys (a .expr e then asHash v (logs (eEqConst o (floatOf v) (shown p))) (λ h. logs (eEqHash o h (shown p)))) λ b zs. a .expr e then pushes then b .expr e then takes 1 (eEq o (shown p))
+  walkPlain (R.logic j) p v ts xs e = some xs pass λ a ys. junction (stepAction j (shown p)) (lastAction j (shown p)) a ys e
+  walkPlain R.coalesce p v ts xs e = two xs pass λ a b. coalesce (a .expr (in-handler e)) (b .expr e) then posted p
+  walkPlain R.conditional p v ts xs e = some xs pass λ a ys. some ys pass λ b zs. a .expr e then branch (b .expr e) (one zs (logs (eConst 0)) λ c. c .expr e) then posted p
+  walkPlain R.statements p v ts xs e = statements (p .offset) xs e
+  walkPlain R.loop p v ts xs e = two xs pass λ a b. a .expr e then looped (b .expr (in-loop e)) then logs (eConst (fold p 0))
+  walkPlain R.forEach p v ts xs e = three xs pass λ a b c. variable ts λ x. b .expr e then eached x (c .expr (in-loop e)) then logs (eConst (fold p 0))
+  walkPlain R.break p v ts xs e = jumps broke (e .loop)
+  walkPlain R.continue p v ts xs e = jumps again (e .loop)
+  walkPlain R.assign p v ts xs e = some xs pass λ a ys. one ys (logs (eConst (constOf v))) (λ b. b .expr e) then target ts (shown p)
+  walkPlain R.bracket p v ts xs e = one xs pass λ a. a .expr e
+  walkPlain (R.unary u) p v ts xs e = one xs pass λ a. a .expr e then logs (unaryAction u (shown p))
+  walkPlain R.add p v ts xs e = some xs pass λ a ys. some ys (a .expr e then posted p) λ b zs. a .expr e then pushes then addition (shown p) b zs e
+  walkPlain R.mul p v ts xs e = two xs pass λ a b. a .expr e then pushes then b .expr e then takes 1 (eMul (shown p))
+  walkPlain R.div p v ts xs e = two xs pass λ a b. b .expr e then guarded (eDivGuard (S .absolute)) operand+ (a .expr e then takes 1 (eDiv (shown p)))
+  walkPlain (R.hostMath u) p v ts xs e = asMath v pass λ f. some xs pass λ a ys. cond (few (length xs)) (hosted (length ys) (eHostMath f (length xs) (shown p)) a ys e) pass
+  walkPlain R.generic p v ts xs e = logs (eConst (fold p (constOf v)))
+  walkPlain R.refused p v ts xs e = pass
+
+  -- a member read: its base, then itself
+  unfoldable pub chained : Post → Payload → List Walkings → Scope → Walking
+  chained p v xs e = one xs pass λ a. a .base e then asName 6 v pass (λ n. loads e (eMember (n .hash) (shown p)))
+
+  unfoldable pub pointed : Post → List Walkings → Scope → Walking
+  pointed p xs e = two xs pass λ a b. a .expr e then guarded (ePointerEnter (shown p)) same (b .expr e then logs (ePointerLeave (shown p)))
+
+  unfoldable pub returning : Post → List Walkings → Scope → Walking
+  returning p xs e = one xs (logs (eConst 0)) (λ a. a .expr e) then returns (shown p)
+
+  abbrev pub alike : (Scope → Walking) → Walkings
+  alike u = record { expr = u; statement = u; base = u }
+
+  unfoldable pub walkRule : Rule → Post → Payload → Forest → List Walkings → Walkings
+  walkRule R.return p v ts xs = record { expr = λ e. logs (eConst (fold p (constOf v))); statement = returning p xs; base = λ e. logs (eConst (fold p (constOf v))) }
+  walkRule R.member p v ts xs = alike (chained p v xs)
+  walkRule R.entity p v ts xs = alike (loaded v (shown p))
+  walkRule R.pointer p v ts xs = alike (pointed p xs)
+  walkRule (R.plain r) p v ts xs = alike (walkPlain r p v ts xs)
+
+  unfoldable mutual
+    pub walk : Tree → Walkings
+    walk (node op p v ts) = walkRule (ruleAt op) p v ts (walks ts)
+
+    pub walks : Forest → List Walkings
+    walks nil = []
+    walks (cons t ts) = walk t ∷ walks ts
+
+-- missing, Break and Continue do not come out of a tree that no loop and no `??` is around
+unfoldable pub finish : Completion → Result
+finish (normal w) = result byEnd w
+finish (missing w) = result byEnd w
+finish (broke w) = result byEnd w
+finish (again w) = result byEnd w
+finish (returned w) = result byReturn w
+finish (halted w) = result byHalt w
+finish (out w) = result byOut w
+
+-- 01, Walk: "The walk starts at the root .. with nothing open"
+unfoldable pub walked : Settings → Tree → List Bool → Result
+walked S t outcomes = finish (walk S t .expr inside (begin outcomes))
+
+-- opens the walk where an example is computed
+unfoldable pub walk-opens : Unit {0}
+unfolding after misses otherwise round rounds nexts segment arguments shown posted-if jumps statements junction stepAction lastAction addition hosted few unaryAction rootShown stores target eachOf variable loaded walkPlain chained pointed returning walkRule walk walks finish walked
+walk-opens = tt

@@ -1,0 +1,4 @@
+pub mod Written
+pub mod ReadBack
+pub mod Numbers
+pub mod Stores
