@@ -77,8 +77,3 @@ treeAt (suc levels) s p =
 -- 01, The tree image: "Then the root node", behind 7 bytes; no accepted image has more than 64 levels
 unfoldable pub parse : List ℕ → Tree
 parse s = treeAt 64 s 7
-
--- opens the tree of an image where an example is computed
-unfoldable pub tree-opens : Unit {0}
-unfolding nameAt payloadAt sizeOf trees treeAt parse
-tree-opens = tt

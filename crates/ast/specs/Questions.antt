@@ -48,8 +48,3 @@ shallow s = rooted 64 s
 -- 01, Nine questions, "in this order": 2, 3 or 4 for the first that is answered by no, else 0
 unfoldable pub questions : List ℕ → ℕ
 questions s = cond (whole s) (cond (formed s) (cond (shallow s) 0 4) 3) 2
-
--- opens questions 2 to 4 where an example is computed
-unfoldable pub questions-opens : Unit {0}
-unfolding fits row filled rooted whole formed shallow questions
-questions-opens = tt

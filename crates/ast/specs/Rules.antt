@@ -14,8 +14,3 @@ ruleOf op = cond (leb 1 op && leb op 51) op (cond (leb 64 op && leb op 123) refu
 -- 01, Nine questions, 3: "every code and kind known"
 unfoldable pub known : ℕ → Bool
 known op = (leb 1 op && leb op 51) || (leb 64 op && leb op 123)
-
--- opens the codes where an example is computed
-unfoldable pub rules-opens : Unit {0}
-unfolding ruleOf known
-rules-opens = tt

@@ -25,8 +25,3 @@ scaled p raw = toBits binary32 (add binary32 (mul binary32 (ofBits binary32 raw)
 -- the constant `raw` with the post folded in; the identity leaves its bits as they are
 unfoldable pub fold : Post → ℕ → ℕ
 fold p raw = cond (isIdentity p) raw (scaled p raw)
-
--- opens the fold where an example is computed
-unfoldable pub post-opens : Unit {0}
-unfolding isIdentity toBits ofBits add mul scaled fold
-post-opens = tt

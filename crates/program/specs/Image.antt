@@ -187,8 +187,3 @@ image P = be 1 1 (be 4 (length (putProgram P [])) (putProgram P []))
 -- the program that a machine reads in bytes
 unfoldable pub read : List ℕ → Program
 read bytes = (u 1 and λ v. u 4 and λ n. getProgram) bytes .val
-
--- opens the writers and readers where an example is computed
-unfoldable pub image-opens : Unit {0}
-unfolding be wordOf bit isSet shapes instructionOf putInstruction getInstruction putText getText putPost getPost putName getName putMember getMember putRoot rootOf getRoot putStore getStore putCall getCall putDepths getDepths putClosing putProgram getProgram image read
-image-opens = tt

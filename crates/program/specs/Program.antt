@@ -79,8 +79,3 @@ callAt P k = getD (P .calls) k (record { index = 0; impl = 0; starts = [] })
 
 unfoldable pub startAt : Program → ℕ → ℕ → ℕ
 startAt P k j = getD (callAt P k .starts) j 0
-
--- opens what stands at an index where an example is computed
-unfoldable pub program-opens : Unit {0}
-unfolding codeAt constAt postAt hashAt nameAt slotAt memberAt storeAt callAt startAt
-program-opens = tt

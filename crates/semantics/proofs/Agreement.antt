@@ -1,4 +1,3 @@
--- Each rule: its lowering and its walk agree; so do a whole tree's. Assumes nothing.
 use mathlib.Core.Path.{refl}
 use mathlib.Core.Bool.{Bool, true, false, cond}
 use mathlib.Core.List.{List}
@@ -8,10 +7,11 @@ use Rattle.ast.specs.Tree.{Name, Payload, Tree, node, Forest, nil, cons}
 use Rattle.numeric.specs.Post.{Post, isIdentity, fold}
 use Rattle.program.specs.Instruction.{Plain, hash, resource, this, negate, not, andLast, orLast, pointerLeave, storeVar, storeTemp, storeMember, cmpConst, eqConst, eqHash, addAcc, addLast, mul, div, cmp, eq, hostMath, loadVar, loadTemp, loadCtx, arrayElement, member, Guard, divGuard, andStep, orStep, pointerEnter, EachNext, eachNextVar, eachNextTemp, plain}
 use Rattle.program.specs.Program.{nameAt, StoreRoot, rootVar, rootTemp, rootOther, Program, postAt, slotAt, memberAt}
+use Rattle.semantics.proofs.BoundedControl.{Whole}
 use Rattle.semantics.proofs.BoundedRules.{tree-bound}
-use Rattle.semantics.proofs.Bounds.{Whole}
 use Rattle.semantics.proofs.Relations.{Zip, znil, zcons, zip-length, name-rel, name-left, hash-rel, math-rel, query-rel, one-rel, two-rel, some-rel, just-rel, three-rel}
-use Rattle.semantics.proofs.Simulation.{Sim, Tree-s}
+use Rattle.semantics.proofs.SimulatedCalls.{Tree-s}
+use Rattle.semantics.proofs.Simulation.{Sim}
 use Rattle.semantics.specs.Lowering.{Lowerings, memberRead, withRoot, member-if, isMember, stores-if, targetRefusal, unless, stepOf, lastOf, equalConst, unaryOf, array-if, lowerPlain, lowerRule, lower, lowers}
 use Rattle.semantics.specs.Machine.{rootAt, plainAction, takingAction, taken, readingAction, guardAction, guardUp, eachAction}
 use Rattle.semantics.specs.Payloads.{asHash, floatOf, constOf, some, Path, path}
@@ -23,6 +23,10 @@ use Rattle.semantics.specs.Walk as K
 use Rattle.semantics.specs.Lowering as L
 use Rattle.semantics.specs.Rule as R
 use Rattle.semantics.proofs.Simulation as Z
+use Rattle.semantics.proofs.SimulatedControl as Y
+use Rattle.semantics.proofs.SimulatedCalls as X
+
+-- Each rule: its lowering and its walk agree; so do a whole tree's. Assumes nothing.
 
 module _ (S : Settings) (P : Program) (E : ℕ) (r : Result) where
   -- this program's
@@ -61,9 +65,9 @@ module _ (S : Settings) (P : Program) (E : ℕ) (r : Result) where
       → S′ e (L.junction (stepOf j q) (lastOf j q) l ls (e .loop)) (K.junction (stepAction j (postAt P q)) (lastAction j (postAt P q)) m ms e)
   unfolding L.junction K.junction stepOf lastOf stepAction lastAction plainAction guardAction guardUp
   junction-s true q a znil e = a .expr e ⨟ pl (Plain.andLast q)
-  junction-s true q a (zcons b h) e = a .expr e ⨟ Z.guarded-s P E r (Guard.andStep q) (junction-s true q b h e)
+  junction-s true q a (zcons b h) e = a .expr e ⨟ Y.guarded-s P E r (Guard.andStep q) (junction-s true q b h e)
   junction-s false q a znil e = a .expr e ⨟ pl (Plain.orLast q)
-  junction-s false q a (zcons b h) e = a .expr e ⨟ Z.guarded-s P E r (Guard.orStep q) (junction-s false q b h e)
+  junction-s false q a (zcons b h) e = a .expr e ⨟ Y.guarded-s P E r (Guard.orStep q) (junction-s false q b h e)
 
   addition-s : (p : Post) {l : Lowerings} {m : Walkings} → T′ l m → {ls : List Lowerings} {ms : List Walkings} → Zip T′ ls ms → (e : Scope) → S′ e (L.addition p l ls (e .loop)) (K.addition (shown p) m ms e)
   unfolding L.addition K.addition plainAction takingAction taken
@@ -112,8 +116,8 @@ module _ (S : Settings) (P : Program) (E : ℕ) (r : Result) where
 
   loaded-s : (v : Payload) (p : Post) (e : Scope) → S′ e (L.loaded v p) (K.loaded v (shown p) e)
   unfolding L.loaded K.loaded readingAction
-  loaded-s v p e = with-p p _ (λ q. K.loaded v q e) λ k. name-rel (S′ e) 4 v (name-rel (S′ e) 5 v (name-rel (S′ e) 3 v no-s (λ n. Z.flagged-s P E r _ (with-n n _ (λ t. loads e (eLoadCtx t (postAt P k))) (λ i. Z.may-s P E r (loadCtx i k)))))
-      (λ n. with-t n _ (λ t. loads e (eLoadTemp t (postAt P k))) (λ i. Z.may-s P E r (loadTemp i k)))) (λ n. Z.flagged-s P E r _ (with-n n _ (λ t. loads e (eLoadVar t (postAt P k))) (λ i. Z.may-s P E r (loadVar i k))))
+  loaded-s v p e = with-p p _ (λ q. K.loaded v q e) λ k. name-rel (S′ e) 4 v (name-rel (S′ e) 5 v (name-rel (S′ e) 3 v no-s (λ n. Z.flagged-s P E r _ (with-n n _ (λ t. loads e (eLoadCtx t (postAt P k))) (λ i. Y.may-s P E r (loadCtx i k)))))
+      (λ n. with-t n _ (λ t. loads e (eLoadTemp t (postAt P k))) (λ i. Y.may-s P E r (loadTemp i k)))) (λ n. Z.flagged-s P E r _ (with-n n _ (λ t. loads e (eLoadVar t (postAt P k))) (λ i. Y.may-s P E r (loadVar i k))))
 
   fits-s : {e : Scope} (c : Bool) {f : Lowering} {u : Walking} → S′ e f u → S′ e (cond c f (failing 7)) (cond c u pass)
   fits-s true a = a
@@ -135,7 +139,7 @@ module _ (S : Settings) (P : Program) (E : ℕ) (r : Result) where
 
   array-s : (x : Bool) (p : Post) (v : Payload) (ts : Forest) {ls : List Lowerings} {ms : List Walkings} → Zip T′ ls ms → (e : Scope) → S′ e (array-if x p v ls (e .loop)) (walkPlain S R.array p v ts ms e)
   unfolding array-if walkPlain readingAction
-  array-s true p v ts h e = just-rel (S′ e) h no-s λ l m a. name-rel (S′ e) 7 v no-s (λ n. Z.flagged-s P E r _ (a .expr e ⨟ with-n n _ (λ t. loads e (eArrayElement t (shown p))) (λ k. with-p p _ (λ q. loads e (eArrayElement (nameAt P k) q)) (λ q. Z.may-s P E r (arrayElement k q)))))
+  array-s true p v ts h e = just-rel (S′ e) h no-s λ l m a. name-rel (S′ e) 7 v no-s (λ n. Z.flagged-s P E r _ (a .expr e ⨟ with-n n _ (λ t. loads e (eArrayElement t (shown p))) (λ k. with-p p _ (λ q. loads e (eArrayElement (nameAt P k) q)) (λ q. Y.may-s P E r (arrayElement k q)))))
   array-s false p v ts h e = Z.failing-s P E r 4
 
   plain-s : (x : R.Plain) (p : Post) (v : Payload) (ts : Forest) {ls : List Lowerings} {ms : List Walkings} → Zip T′ ls ms → (e : Scope) → S′ e (lowerPlain S x p v ts ls (e .loop)) (walkPlain S x p v ts ms e)
@@ -148,7 +152,7 @@ module _ (S : Settings) (P : Program) (E : ℕ) (r : Result) where
   plain-s R.resource p v ts h e = Z.flagged-s P E r _ (Z.withHash-s P E r _ _ (λ t. logs (eResource t)) (λ k. pl (resource k)))
   plain-s R.this p v ts h e = with-p p _ (λ q. logs (eThis q)) (λ k. pl (this k))
   plain-s R.load p v ts h e = loaded-s v p e
-  plain-s R.query p v ts h e = query-rel (S′ e) v no-s (λ i m. Z.flagged-s P E r _ (Z.query-s P E r i m p h))
+  plain-s R.query p v ts h e = query-rel (S′ e) v no-s (λ i m. Z.flagged-s P E r _ (X.query-s P E r i m p h))
   plain-s (R.compare o) p v ts h e = some-rel (S′ e) h no-s λ l m a ls ms z.
       with-p p _ (λ q. some ms (m .expr e then logs (eCmpConst o (constOf v) q)) λ b zs. m .expr e then pushes then b .expr e then takes 1 (eCmp o q)) λ q.
       some-rel (S′ e) z (a .expr e ⨟ Z.withConst-s P E r _ _ (λ t. logs (eCmpConst o t (postAt P q))) (λ k. pl (cmpConst o k q))) λ l m b ls ms z. Z.pushed-s P E r (a .expr e) (b .expr e ⨟ Z.taking-s P E r (cmp o q))
@@ -157,26 +161,26 @@ module _ (S : Settings) (P : Program) (E : ℕ) (r : Result) where
       some-rel (S′ e) z (a .expr e ⨟ hash-rel (S′ e) v (Z.withConst-s P E r _ _ (λ t. logs (eEqConst o t (postAt P q))) (λ k. pl (eqConst o k q))) (λ x. Z.flagged-s P E r _ (Z.withHash-s P E r x _ (λ t. logs (eEqHash o t (postAt P q))) (λ k. pl (eqHash o k q)))))
       λ l m b ls ms z. Z.pushed-s P E r (a .expr e) (b .expr e ⨟ Z.taking-s P E r (eq o q))
   plain-s (R.logic j) p v ts h e = some-rel (S′ e) h no-s λ l m a ls ms z. with-p p _ (λ q. K.junction (stepAction j q) (lastAction j q) m ms e) (λ q. junction-s j q a z e)
-  plain-s R.coalesce p v ts h e = two-rel (S′ e) h no-s λ l m a l′ m′ b. Z.coalesce-s P E r (a .expr (in-handler e)) (b .expr e) ⨟ post-s p
-  plain-s R.conditional p v ts h e = some-rel (S′ e) h no-s λ l m a ls ms z. some-rel (S′ e) z no-s λ l m b ls ms z. a .expr e ⨟ Z.branch-s P E r (b .expr e) (one-rel (S′ e) z (Z.constant-s P E r 0) (λ l m c. c .expr e)) ⨟ post-s p
+  plain-s R.coalesce p v ts h e = two-rel (S′ e) h no-s λ l m a l′ m′ b. Y.coalesce-s P E r (a .expr (in-handler e)) (b .expr e) ⨟ post-s p
+  plain-s R.conditional p v ts h e = some-rel (S′ e) h no-s λ l m a ls ms z. some-rel (S′ e) z no-s λ l m b ls ms z. a .expr e ⨟ Y.branch-s P E r (b .expr e) (one-rel (S′ e) z (Z.constant-s P E r 0) (λ l m c. c .expr e)) ⨟ post-s p
   plain-s R.statements p v ts h e = statements-s _ h e
-  plain-s R.loop p v ts h e = Z.flagged-s P E r _ (two-rel (S′ e) h no-s λ l m a l′ m′ b. a .expr e ⨟ Z.looped-s P E r (b .less (in-loop e)) (b .expr (in-loop e)) ⨟ Z.constant-s P E r _)
-  plain-s R.forEach p v ts h e = Z.flagged-s P E r _ (three-rel (S′ e) h no-s λ l m a l′ m′ b l″ m″ c. variable-s ts _ (λ x. m′ .expr e then K.eached x (m″ .expr (in-loop e)) then logs (eConst (fold p 0))) (λ i. b .expr e ⨟ Z.eached-s P E r i (c .less (in-loop e)) (c .expr (in-loop e)) ⨟ Z.constant-s P E r _))
-  plain-s R.break p v ts h e = Z.break-s P E r e (e .loop) refl
-  plain-s R.continue p v ts h e = Z.continue-s P E r e (e .loop) refl
+  plain-s R.loop p v ts h e = Z.flagged-s P E r _ (two-rel (S′ e) h no-s λ l m a l′ m′ b. a .expr e ⨟ Y.looped-s P E r (b .less (in-loop e)) (b .expr (in-loop e)) ⨟ Z.constant-s P E r _)
+  plain-s R.forEach p v ts h e = Z.flagged-s P E r _ (three-rel (S′ e) h no-s λ l m a l′ m′ b l″ m″ c. variable-s ts _ (λ x. m′ .expr e then K.eached x (m″ .expr (in-loop e)) then logs (eConst (fold p 0))) (λ i. b .expr e ⨟ Y.eached-s P E r i (c .less (in-loop e)) (c .expr (in-loop e)) ⨟ Z.constant-s P E r _))
+  plain-s R.break p v ts h e = Y.break-s P E r e (e .loop) refl
+  plain-s R.continue p v ts h e = Y.continue-s P E r e (e .loop) refl
   plain-s R.assign p v ts h e = some-rel (S′ e) h no-s λ l m a ls ms z. target-s ts (one-rel (S′ e) z (Z.constant-s P E r _) (λ l m b. b .expr e)) p
   plain-s R.bracket p v ts h e = one-rel (S′ e) h no-s λ l m a. a .expr e
   plain-s (R.unary u) p v ts h e = one-rel (S′ e) h no-s λ l m a. a .expr e ⨟ unary-s u p
   plain-s R.add p v ts h e = some-rel (S′ e) h no-s λ l m a ls ms z. some-rel (S′ e) z (a .expr e ⨟ post-s p) λ l m b ls ms z. Z.pushed-s P E r (a .expr e) (addition-s p b z e)
   plain-s R.mul p v ts h e = two-rel (S′ e) h no-s λ l m a l′ m′ b. Z.pushed-s P E r (a .expr e) (b .expr e ⨟ with-p p _ (λ q. takes 1 (eMul q)) (λ q. Z.taking-s P E r (mul q)))
-  plain-s R.div p v ts h e = two-rel (S′ e) h no-s λ l m a l′ m′ b. b .expr e ⨟ Z.guarded-s P E r (divGuard (S .absolute)) (a .expr e ⨟ with-p p _ (λ q. takes 1 (eDiv q)) (λ q. Z.taking-s P E r (div q)))
+  plain-s R.div p v ts h e = two-rel (S′ e) h no-s λ l m a l′ m′ b. b .expr e ⨟ Y.guarded-s P E r (divGuard (S .absolute)) (a .expr e ⨟ with-p p _ (λ q. takes 1 (eDiv q)) (λ q. Z.taking-s P E r (div q)))
   plain-s (R.hostMath u) p v ts h e = Z.flagged-s P E r _ (math-rel (S′ e) v no-s (λ f. host-s f p h e))
   plain-s R.generic p v ts h e = Z.constant-s P E r _
   plain-s R.refused p v ts h e = no-s
 
   chained-s : (p : Post) (v : Payload) {ls : List Lowerings} {ms : List Walkings} → Zip T′ ls ms → (n : Name) (e : Scope) → S′ e (L.chained p v ls n (e .loop)) (K.chained S p v ms e)
   unfolding L.chained K.chained readingAction
-  chained-s p v h n e = one-rel (S′ e) h no-s λ l m a. a .base n e ⨟ name-rel (S′ e) 6 v no-s (λ k. Z.withMember-s P E r _ _ (λ t. loads e (eMember t (shown p))) (λ i. with-p p _ (λ q. loads e (eMember (memberAt P i) q)) (λ q. Z.may-s P E r (member i q))))
+  chained-s p v h n e = one-rel (S′ e) h no-s λ l m a. a .base n e ⨟ name-rel (S′ e) 6 v no-s (λ k. Z.withMember-s P E r _ _ (λ t. loads e (eMember t (shown p))) (λ i. with-p p _ (λ q. loads e (eMember (memberAt P i) q)) (λ q. Y.may-s P E r (member i q))))
 
   member-read-s : (p : Post) (v : Payload) {ls : List Lowerings} {ms : List Walkings} → Zip T′ ls ms → (e : Scope) → S′ e (memberRead p v ls (e .loop)) (K.chained S p v ms e)
   unfolding memberRead
@@ -184,11 +188,11 @@ module _ (S : Settings) (P : Program) (E : ℕ) (r : Result) where
 
   pointer-s : (p : Post) {ls : List Lowerings} {ms : List Walkings} → Zip T′ ls ms → (e : Scope) → S′ e (L.pointed p ls (e .loop)) (K.pointed S p ms e)
   unfolding L.pointed K.pointed plainAction guardAction guardUp
-  pointer-s p h e = Z.flagged-s P E r _ (two-rel (S′ e) h no-s λ l m a l′ m′ b. with-p p _ (λ q. m .expr e then K.guarded (ePointerEnter q) same (m′ .expr e then logs (ePointerLeave q))) λ q. a .expr e ⨟ Z.guarded-s P E r (pointerEnter q) (b .expr e ⨟ pl (pointerLeave q)))
+  pointer-s p h e = Z.flagged-s P E r _ (two-rel (S′ e) h no-s λ l m a l′ m′ b. with-p p _ (λ q. m .expr e then K.guarded (ePointerEnter q) same (m′ .expr e then logs (ePointerLeave q))) λ q. a .expr e ⨟ Y.guarded-s P E r (pointerEnter q) (b .expr e ⨟ pl (pointerLeave q)))
 
   return-s : (p : Post) {ls : List Lowerings} {ms : List Walkings} → Zip T′ ls ms → (e : Scope) → S′ e (L.returning p ls (e .loop)) (K.returning S p ms e)
   unfolding L.returning K.returning
-  return-s p h e = one-rel (S′ e) h (Z.constant-s P E r 0) (λ l m a. a .expr e) ⨟ with-p p _ returns (λ q. Z.ret-s P E r q)
+  return-s p h e = one-rel (S′ e) h (Z.constant-s P E r 0) (λ l m a. a .expr e) ⨟ with-p p _ returns (λ q. Y.ret-s P E r q)
 
   module _ {ls : List Lowerings} {ms : List Walkings} (h : Zip T′ ls ms) (p : Post) (v : Payload) (ts : Forest) where
     whole-s : (x : Rule) → Whole (lowerRule S x p v ts ls) (walkRule S x p v ts ms) → T′ (lowerRule S x p v ts ls) (walkRule S x p v ts ms)

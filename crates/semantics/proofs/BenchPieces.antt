@@ -5,7 +5,9 @@ use Prim.Native.Nat.{ℕ, zero, suc}
 use lib.ListN.{length}
 use Rattle.program.specs.Program.{Program}
 use Rattle.program.specs.Image.{wordOf, read}
-use Rattle.semantics.specs.Answer.{programImage, answer, answer-opens}
+use Rattle.semantics.proofs.Opens.{computing}
+use Rattle.semantics.specs.Compiled.{programImage}
+use Rattle.semantics.specs.Answer.{answer}
 use Rattle.semantics.specs.BenchPieces.{Outcome, accepted, refused, Piece, pieces}
 
 -- the bytes of a program image, and the program that is read in them
@@ -30,5 +32,5 @@ given p = record { size = p .size; outcome = p .outcome }
 
 -- M1 to M12 of 01
 bench-pieces : map found pieces ≡ map given pieces
-unfolding answer-opens
+unfolding computing
 bench-pieces = refl

@@ -1,4 +1,3 @@
--- Every rule's walk stays within the maxima that its lowering raised; so does a whole tree's. Assumes nothing.
 use mathlib.Core.Path.{_≡_, refl}
 use mathlib.Core.Bool.{Bool, true, false, cond}
 use mathlib.Core.List.{List, []}
@@ -9,7 +8,8 @@ use Rattle.ast.specs.Tree.{Name, Payload, Tree, node, Forest, nil, cons}
 use Rattle.numeric.specs.Post.{Post, isIdentity}
 use Rattle.program.specs.Instruction.{Plain, hash, resource, this, pointerLeave, storeVar, storeTemp, storeMember, cmpConst, eqConst, eqHash, addAcc, addLast, mul, div, cmp, eq, hostMath, loadVar, loadTemp, loadCtx, arrayElement, member, Guard, divGuard, pointerEnter, EachNext, eachNextVar, eachNextTemp, plain, taking, reading, end, return}
 use Rattle.program.specs.Program.{Counts, StoreRoot, rootVar, rootTemp, rootOther}
-use Rattle.semantics.proofs.Bounds.{In, Less, Bound, Fine, ups, taken-all, ext-bound, after-less, _then-b_, pushed-b, pushed-fine, failing-b, put-b, take-b, flagged-b, post-b, name-b, temp-b, member-b, hash-b, withConst-b, store-b, constant-b, postInstr-b, load-b, ret-b, break-b, continue-b, guarded-b, branch-b, coalesce-b, looped-b, eached-b, Whole, query-b}
+use Rattle.semantics.proofs.BoundedControl.{Whole, load-b, ret-b, break-b, continue-b, guarded-b, branch-b, coalesce-b, looped-b, eached-b, query-b}
+use Rattle.semantics.proofs.Bounds.{In, Less, Bound, Fine, ups, taken-all, ext-bound, after-less, _then-b_, pushed-b, pushed-fine, failing-b, put-b, take-b, flagged-b, post-b, name-b, temp-b, member-b, hash-b, withConst-b, store-b, constant-b, postInstr-b}
 use Rattle.semantics.proofs.Relations.{Zip, znil, zcons, zip-length, name-rel, name-left, hash-rel, math-rel, query-rel, one-rel, two-rel, some-rel, just-rel, three-rel}
 use Rattle.semantics.specs.Demand3.{Within}
 use Rattle.semantics.specs.Link.{lowered}
@@ -23,6 +23,8 @@ use Rattle.semantics.specs.Walk.{Completion, normal, missing, broke, aga
 use Rattle.semantics.specs.Walk as K
 use Rattle.semantics.specs.Lowering as L
 use Rattle.semantics.specs.Rule as R
+
+-- Every rule's walk stays within the maxima that its lowering raised; so does a whole tree's. Assumes nothing.
 
 -- rules over lists of children
 statements-b : (o : ℕ) {ls : List Lowerings} {ms : List Walkings} → Zip Whole ls ms → (e : Scope) → Fine (L.statements o ls (e .loop)) (K.statements o ms e)

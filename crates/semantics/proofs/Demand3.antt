@@ -16,7 +16,7 @@ use Rattle.semantics.proofs.AcceptedTrees.{parsed-fits, parsed-short}
 use Rattle.semantics.proofs.BoundedRules.{within}
 use Rattle.semantics.proofs.Fitting.{image-back}
 use Rattle.semantics.proofs.Linked.{correct}
-use Rattle.semantics.specs.Answer.{settings, refusalOf, programImage}
+use Rattle.semantics.specs.Compiled.{settings, refusalOf, programImage}
 use Rattle.semantics.specs.Demand3.{treeBehaviour, Within, Agrees, Demand3}
 use Rattle.semantics.specs.Link.{lowered, link, program}
 use Rattle.semantics.specs.Machine.{follow, start}

@@ -5,10 +5,11 @@ use mathlib.Core.List.{List, map}
 use mathlib.Core.Option.{Option, some, Option·map}
 use Prim.Native.Nat.{ℕ}
 use Rattle.program.specs.Image.{read}
+use Rattle.semantics.proofs.Opens.{computing}
 use Rattle.semantics.specs.Run.{Behaviour, behaviour}
 use Rattle.semantics.specs.Machine.{follow, start}
-use Rattle.semantics.specs.Answer.{programImage}
-use Rattle.semantics.specs.Demand3.{treeBehaviour, behaviour-opens}
+use Rattle.semantics.specs.Compiled.{programImage}
+use Rattle.semantics.specs.Demand3.{treeBehaviour}
 use Rattle.semantics.specs.Examples.{Example, examples}
 
 -- a tree's program image, and on each list of outcomes the behaviour of the walk and of the step machine over the program's bytes
@@ -29,5 +30,5 @@ given x = record { card = x .card; walks = map (λ t. t .shows) (x .trials); mac
 
 -- E1 to E39 of the readings: the lowering, the walk and the step machine, each as the example gives it
 worked-examples : map found examples ≡ map given examples
-unfolding behaviour-opens
+unfolding computing
 worked-examples = refl

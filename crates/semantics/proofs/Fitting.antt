@@ -1,4 +1,3 @@
--- The program of a tree that fits has every index, target, count and text in its field, so its image is read back. Assumes nothing.
 use Rattle.program.proofs.Length.{Counted, image-length}
 use Rattle.program.proofs.ReadBack.{read-image}
 use Rattle.program.specs.Image.{image, read}
@@ -14,7 +13,8 @@ use Rattle.program.specs.Image.{image, read}
 use Rattle.program.specs.Instruction.{hash, end}
 use Rattle.program.specs.Kinds.{inFloatLoop}
 use Rattle.program.specs.Program.{MemberStore}
-use Rattle.semantics.proofs.Costs.{stored, apart, sz, pay, own}
+use Rattle.semantics.proofs.CostedRules.{pay, own, sized}
+use Rattle.semantics.proofs.Costs.{stored, apart, sz}
 use Rattle.semantics.proofs.FitTrees.{TreeFits}
 use Rattle.semantics.proofs.RangedJumps.{fits-end}
 use Rattle.semantics.proofs.RangedRules.{tree-r}
@@ -29,7 +29,8 @@ use Rattle.semantics.specs.Positions.{_⊕_, past}
 use Rattle.semantics.specs.Rule.{Settings}
 use Rattle.semantics.specs.Run.{nothing-open}
 use Rattle.semantics.specs.State.{Item, CallInfo, MemberRead, Flags, notFloatOnly, empty}
-use Rattle.semantics.proofs.Costs as C
+
+-- The program of a tree that fits has every index, target, count and text in its field, so its image is read back. Assumes nothing.
 
 -- a node weighs no more than its bytes
 held-enough : (v : Payload) → own ones + pay ones v + ones .i + ones .ar ≤ held v
@@ -42,7 +43,7 @@ held-enough (pQuery i m) = omega arith
 held-enough (pName k n) = omega arith
 
 pub total-bytes : (S : Settings) (t : Tree) → total (lowered S t) ≤ bytes t
-total-bytes S t = let h = C.sized ones S t in let i = all-paid ones held held-enough t in omega arith
+total-bytes S t = let h = sized ones S t in let i = all-paid ones held held-enough t in omega arith
 
 -- code
 settled : (b : ℕ) → b ≤ 65535 → (xs : List Item) → Every Fits xs → Every FitInstruction (map (settle b 0 0) xs)

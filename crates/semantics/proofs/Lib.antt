@@ -1,11 +1,16 @@
+pub mod Opens
 pub mod Positions
 pub mod Relations
 pub mod Bounds
+pub mod BoundedControl
 pub mod BoundedRules
 pub mod Simulation
+pub mod SimulatedControl
+pub mod SimulatedCalls
 pub mod Agreement
 pub mod Linked
 pub mod Costs
+pub mod CostedRules
 pub mod Sizes
 pub mod Ranges
 pub mod RangedPools
@@ -18,3 +23,5 @@ pub mod AcceptedTrees
 pub mod Demand3
 pub mod Examples
 pub mod BenchPieces
+pub mod Slips
+pub mod Answers

@@ -1,4 +1,3 @@
--- Calls: their arguments' segments and starts fit. Assumes nothing.
 use mathlib.Core.Path.{_≡_, refl}
 use mathlib.Core.Bool.{Bool, false}
 use mathlib.Core.List.{List, [], _∷_, _++_}
@@ -12,7 +11,8 @@ use Rattle.program.specs.Fits.{Below, Every, FitPost}
 use Rattle.program.specs.Image.{wordOf}
 use Rattle.program.specs.Instruction.{end, call}
 use Rattle.program.specs.Program.{Counts}
-use Rattle.semantics.proofs.Costs.{weigh, asked, apart, sz, size, seg-grow}
+use Rattle.semantics.proofs.CostedRules.{seg-grow, call-grow}
+use Rattle.semantics.proofs.Costs.{weigh, asked, apart, sz, size}
 use Rattle.semantics.proofs.RangedJumps.{fits-end}
 use Rattle.semantics.proofs.RangedPools.{post-r}
 use Rattle.semantics.proofs.Ranges.{Fits, ones, FitText, FitInfo, Good, Done, Room, Ranged, past-weigh, every-append, put-r}
@@ -22,7 +22,8 @@ use Rattle.semantics.specs.Lowering.{query, arguments, Lowerings, pasts,
 use Rattle.semantics.specs.Pieces.{Lowered, put, withPost}
 use Rattle.semantics.specs.Positions.{past}
 use Rattle.semantics.specs.State.{Item, instr, CallInfo, set-calls, State, set-pools}
-use Rattle.semantics.proofs.Costs as C
+
+-- Calls: their arguments' segments and starts fit. Assumes nothing.
 
 -- a tree as an expression, a statement and a base
 pub record Ranges (a : Lowerings) : Type 0 where
@@ -127,18 +128,18 @@ module _ (v m : ℕ) (p : Post) (fv : Below 2 v) (fm : Below 1 m) (fp : FitPost 
         let i = call-r (length (s .pools .calls)) .grows c b n (called v m xs c s) in
         let e = called-size v m xs c s in
         let g = arguments-r xs h c (begun s) .grows in
-        let a = C.call-grow ones entry s in omega arith;
+        let a = call-grow ones entry s in omega arith;
     deep = λ o c b n s r d.
         let i = call-r (length (s .pools .calls)) .grows c b n (called v m xs c s) in
         let e = called-size v m xs c s in
         let g = arguments-r xs h c (begun s) .grows in
-        let a = C.call-grow ones entry s in
+        let a = call-grow ones entry s in
         call-r (length (s .pools .calls)) .deep o c b n (called v m xs c s) (omega arith) (arguments-r xs h c (begun s) .deep o (omega arith) d);
     ok = λ u c b n s l q.
         let i = call-r (length (s .pools .calls)) .grows c b n (called v m xs c s) in
         let e = called-size v m xs c s in
         let g = arguments-r xs h c (begun s) .grows in
-        let a = C.call-grow ones entry s in
+        let a = call-grow ones entry s in
         let k = calls-size s in
         call-r (length (s .pools .calls)) .ok (omega arith, tt) c b n (called v m xs c s) l (called-good c s (omega arith) q);
   }

@@ -1,4 +1,3 @@
--- Guards, forks and loops: their targets are within the segment. Assumes nothing.
 use lib.Bits.{or-lt, and-lt}
 use mathlib.Core.Bool.{Bool, true, false}
 use mathlib.Core.List.{List, [], _∷_, map}
@@ -15,6 +14,8 @@ use Rattle.semantics.specs.Pieces.{Lowering, guarded, fork, aim, looped,
 use Rattle.semantics.specs.Positions.{past}
 use Rattle.semantics.specs.Run.{opens}
 use Rattle.semantics.specs.State.{Item, instr, toCleanup, toCheck, raise}
+
+-- Guards, forks and loops: their targets are within the segment. Assumes nothing.
 
 -- jumps
 pub fits-jump : Aims jump

@@ -1,4 +1,3 @@
--- A piece that enters a value into a pool: its index is within the sizes, and the pool stays fit. Assumes nothing.
 use lib.Bits.{or-lt, and-lt}
 use mathlib.Core.Path.{_≡_}
 use mathlib.Core.Bool.{Bool, true, false}
@@ -18,6 +17,8 @@ use Rattle.semantics.specs.Pieces.{Lowering, putConst, itself, withConst
 use Rattle.semantics.specs.Positions.{slot, intern, pair-discrete}
 use Rattle.semantics.specs.State.{MemberRead, set-consts, set-posts, set-hashes, set-names, set-temps, set-members, set-stores, State, set-pools}
 use Rattle.semantics.proofs.Costs as C
+
+-- A piece that enters a value into a pool: its index is within the sizes, and the pool stays fit. Assumes nothing.
 
 -- the index of an entry, and the growth of a pool
 slot-less : {A K : Type 0} (key : A → K) (dec : (a b : K) → Dec (a ≡ b)) (v : A) (n : ℕ) (xs : List A) → slot key dec v n xs + 1 ≤ n + weigh 1 (intern key dec v xs)

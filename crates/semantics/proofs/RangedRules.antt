@@ -1,4 +1,3 @@
--- Each rule's lowering fits; so does a whole tree's, if its own fields fit. Assumes nothing.
 use Rattle.ast.specs.Rules.{ruleOf}
 use borrow.Author.Tests.{leb-true}
 use Rattle.numeric.proofs.PostFits.{fold-fits-four}
@@ -16,7 +15,7 @@ use Rattle.program.specs.Fits.{Below, Every, FitPost, rootIndex}
 use Rattle.program.specs.Image.{bit, wordOf}
 use Rattle.program.specs.Instruction.{post, hash, resource, this, pointerLeave, storeVar, storeTemp, storeMember, cmpConst, eqConst, eqHash, addAcc, addLast, mul, div, cmp, eq, hostMath, loadVar, loadTemp, loadCtx, arrayElement, member, divGuard, pointerEnter, jumpIfFalsy, EachNext, eachNextVar, eachNextTemp, plain, taking, reading, guard, jump, handlerPush, handlerPop, return, eachNext}
 use Rattle.program.specs.Program.{StoreRoot, rootVar, rootTemp, rootOther}
-use Rattle.semantics.proofs.Costs.{own}
+use Rattle.semantics.proofs.CostedRules.{own}
 use Rattle.semantics.proofs.FitTrees.{PayloadFits, float-fits, const-fits, string-fits, resource-fits, TreeFits, ForestFits, name-r, hash-r, math-r, asked-r}
 use Rattle.semantics.proofs.RangedCalls.{Ranges, query-r}
 use Rattle.semantics.proofs.RangedJumps.{fits-jump, guarded-r, fork-r, looped-r, eached-r}
@@ -31,6 +30,8 @@ use Rattle.semantics.specs.Run.{operand+, handler+, same}
 use Rattle.semantics.specs.State.{instr, toCleanup, toCheck}
 use Rattle.semantics.specs.Walk.{few}
 use Rattle.semantics.specs.Rule as R
+
+-- Each rule's lowering fits; so does a whole tree's, if its own fields fit. Assumes nothing.
 
 -- the first children
 module _ {X : Type 0} (R : X → Type 0) where

@@ -1,5 +1,3 @@
--- Every index, target and value of a lowering fits its field, and no count goes deeper than the code is long: the relation `Ranged`,
--- closed under every combinator. It holds where the whole stays below 65,536 entries, which `Sizes` gives. Assumes nothing.
 use lib.Bits.{or-lt, and-lt}
 use mathlib.Core.Path.{_≡_}
 use mathlib.Core.Bool.{Bool, true, false}
@@ -21,6 +19,9 @@ use Rattle.semantics.specs.Positions.{_⊕_, past, intern}
 use Rattle.semantics.specs.Run.{operand+}
 use Rattle.semantics.specs.State.{Item, instr, CallInfo, MemberRead, Pools, Flags, sets, notFloatOnly, queried, State, raise}
 use Rattle.semantics.specs.Walk.{after}
+
+-- Every index, target and value of a lowering fits its field, and no count goes deeper than the code is long: the relation `Ranged`,
+-- closed under every combinator. It holds where the whole stays below 65,536 entries, which `Sizes` gives. Assumes nothing.
 
 -- everything weighs 1, but an argument's start nothing
 abbrev pub ones : Weight

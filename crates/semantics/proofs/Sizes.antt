@@ -1,4 +1,3 @@
--- Sizes of the program, by the tree's nodes and bytes: what the workspace's regions must hold. Assumes nothing.
 use Rattle.ast.specs.Encode.{payloadSize}
 use mathlib.Core.Path.{_≡_, refl}
 use mathlib.Core.List.{List, [], _∷_, map}
@@ -8,11 +7,14 @@ use native.Mathlib.Nat.{mul-suc, mul-zero}
 use lib.ListN.{length, length-append, length-map}
 use Rattle.ast.specs.Tree.{Payload, pNone, pFloat, pHash, pMath, pName, pQuery, Tree, node, Forest, nil, cons}
 use Rattle.program.specs.Program.{MemberStore, QueryCall, Program}
-use Rattle.semantics.proofs.Costs.{Weight, weigh, stored, asked, apart, sz, pay, own, cost, costs, sized}
+use Rattle.semantics.proofs.CostedRules.{pay, own, cost, costs, sized}
+use Rattle.semantics.proofs.Costs.{Weight, weigh, stored, asked, apart, sz}
 use Rattle.semantics.specs.Link.{settle, place-segments, offsetsOf, place-call, memberEntry, lowered, link, program}
 use Rattle.semantics.specs.Positions.{_⊕_, past}
 use Rattle.semantics.specs.Rule.{Settings}
 use Rattle.semantics.specs.State.{Item, CallInfo}
+
+-- Sizes of the program, by the tree's nodes and bytes: what the workspace's regions must hold. Assumes nothing.
 
 -- a sum over the nodes
 module _ (m : Payload → ℕ) where

@@ -2,27 +2,9 @@
 use mathlib.Core.Bool.{cond}
 use mathlib.Core.List.{List, _++_}
 use Prim.Native.Nat.{ℕ, zero, suc}
-use lib.Dec.{eqb, leb}
+use lib.Dec.{leb}
 use lib.ListN.{length, drop, replicate}
-use Rattle.wire.specs.Bytes.{be8}
-use Rattle.ast.specs.Node.{parse}
-use Rattle.ast.specs.Questions.{questions}
-use Rattle.program.specs.Image.{image}
-use Rattle.semantics.specs.Rule.{Settings}
-use Rattle.semantics.specs.State.{first}
-use Rattle.semantics.specs.Link.{lowered, program}
-
--- 01, The tree image: "Arrays byte (0 Unresolved, 1 FromHost). Divisor byte (0 Signed, 1 Absolute)"
-unfoldable pub settings : List ℕ → Settings
-settings s = record { fromHost = eqb (be8 s 0 5) 1; absolute = eqb (be8 s 0 6) 1 }
-
--- questions 2 to 8: the number of the first that is answered by no, else 0
-unfoldable pub refusalOf : List ℕ → ℕ
-refusalOf s = first (questions s) (lowered (settings s) (parse s) .state .refusal)
-
--- the program image of a tree image
-unfoldable pub programImage : List ℕ → List ℕ
-programImage s = image (program (settings s) (parse s))
+use Rattle.semantics.specs.Compiled.{refusalOf, programImage}
 
 -- 01, Nine questions: "A refusal returns its number and length 0. Acceptance returns 0 and the length"
 pub record Answer : Type 0 where
@@ -49,8 +31,3 @@ outputAfter s words out = written (answer s words (length out) .number) (program
 -- 01, Nine questions: "The workspace's first 16,384 words are zero afterwards, and later words unchanged; after 1 all are unchanged."
 unfoldable pub workspaceAfter : List ℕ → List ℕ
 workspaceAfter words = cond (leb 16384 (length words)) (replicate 16384 0 ++ drop 16384 words) words
-
--- opens all that an answer rests on where an example is computed
-unfoldable pub answer-opens : Unit {0}
-unfolding Rattle.wire.specs.Bytes.bytes-opens Rattle.wire.specs.Reader.reader-opens Rattle.numeric.specs.Post.post-opens Rattle.ast.specs.Rules.rules-opens Rattle.ast.specs.Node.tree-opens Rattle.ast.specs.Questions.questions-opens Rattle.program.specs.Image.image-opens Rattle.semantics.specs.Positions.pool-opens Rattle.semantics.specs.Rule.rule-opens Rattle.semantics.specs.Payloads.payload-opens Rattle.semantics.specs.Run.opens Rattle.semantics.specs.Walk.few Rattle.semantics.specs.State.state-opens Rattle.semantics.specs.Pieces.pieces-opens Rattle.semantics.specs.Lowering.lowering-opens Rattle.semantics.specs.Link.link-opens settings refusalOf programImage answerFrom answer
-answer-opens = tt

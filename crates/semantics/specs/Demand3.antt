@@ -11,7 +11,7 @@ use Rattle.program.specs.Image.{read}
 use Rattle.semantics.specs.Run.{Event, event, argument, Result, Behaviour, behaviour}
 use Rattle.semantics.specs.Walk.{walked}
 use Rattle.semantics.specs.Machine.{follow, start}
-use Rattle.semantics.specs.Answer.{settings, refusalOf, programImage}
+use Rattle.semantics.specs.Compiled.{settings, refusalOf, programImage}
 
 -- what the walk over the tree of an image shows
 unfoldable pub treeBehaviour : List ℕ → List Bool → Behaviour
@@ -45,8 +45,3 @@ pub record Agrees (tree card : List ℕ) (outcomes : List Bool) : Type 0 where
 -- 01, Walk: "Demand 3 is a single claim about the whole tree and the whole list of outcomes"
 abbrev pub Demand3 : Type 0
 Demand3 = (tree : List ℕ) → Bytes tree → refusalOf tree ≡ 0 → (outcomes : List Bool) → Agrees tree (programImage tree) outcomes
-
--- opens all that the walk and the step machine rest on where an example is computed
-unfoldable pub behaviour-opens : Unit {0}
-unfolding Rattle.semantics.specs.Answer.answer-opens Rattle.semantics.specs.Run.run-opens Rattle.semantics.specs.Walk.walk-opens Rattle.program.specs.Program.program-opens Rattle.semantics.specs.Machine.machine-opens treeBehaviour
-behaviour-opens = tt

@@ -86,8 +86,3 @@ link x =
 
 unfoldable pub program : Settings → Tree → Program
 program S t = link (lowered S t)
-
--- opens a program's making where an example is computed
-unfoldable pub link-opens : Unit {0}
-unfolding relocate settle place-segments offsetsOf place-call memberEntry inFloatLoop finalFlags lowered link program
-link-opens = tt

@@ -2,10 +2,11 @@
 use mathlib.Core.Bool.{Bool, true, false, cond}
 use mathlib.Core.List.{List, [], _∷_, _++_, map}
 use mathlib.Core.Option.{Option, some, none}
-use Prim.Native.Nat.{ℕ, zero, suc}
+use Prim.Native.Nat.{ℕ, zero, suc, _+_}
 use lib.ListN.{length}
 use Rattle.numeric.specs.Post.{Post, fold}
 use Rattle.ast.specs.Tree.{Name, Payload, Tree, node, Forest, nil, cons}
+use Rattle.program.specs.Kinds.{HAS-ASSIGNMENT, HAS-LOOPS, READS-ACTOR-VARS, READS-CONTEXT, USES-ARROW, USES-MEMBERS, USES-RANDOM, USES-RANDOM-OP}
 use Rattle.program.specs.Instruction.{Plain, hash, resource, this, negate, not, andLast, orLast, pointerLeave, storeVar, storeTemp, storeMember, cmpConst, eqConst, eqHash, addAcc, addLast, mul, div, cmp, eq, hostMath, loadVar, loadTemp, loadCtx, arrayElement, member, Guard, divGuard, andStep, orStep, pointerEnter, jumpIfFalsy, EachNext, eachNextVar, eachNextTemp, plain, taking, reading, guard, end, jump, handlerPush, handlerPop, return, call}
 use Rattle.program.specs.Program.{Counts, StoreRoot, rootVar, rootTemp, rootOther}
 use Rattle.semantics.specs.Positions.{past}
@@ -29,7 +30,7 @@ pub record Lowerings : Type 0 where
 
 -- 01, Nine questions, 7: "A load takes Entity, Temp or Context under each variable operator"; the post is interned first
 unfoldable pub loaded : Payload → Post → Lowering
-loaded v p = withPost p λ q. asName 4 v (asName 5 v (asName 3 v (failing 7) (λ n. flagged (sets 8) (withName n λ k. put (reading (loadCtx k q))))) (λ n. withTemp n λ t. put (reading (loadTemp t q)))) (λ n. flagged (sets 2) (withName n λ k. put (reading (loadVar k q))))
+loaded v p = withPost p λ q. asName 4 v (asName 5 v (asName 3 v (failing 7) (λ n. flagged (sets READS-CONTEXT) (withName n λ k. put (reading (loadCtx k q))))) (λ n. withTemp n λ t. put (reading (loadTemp t q)))) (λ n. flagged (sets READS-ACTOR-VARS) (withName n λ k. put (reading (loadVar k q))))
 
 -- a member read: its base, then itself; "Member: member, post"
 unfoldable pub chained : Post → Payload → List Lowerings → Name → Bool → Lowering
@@ -37,14 +38,14 @@ chained p v xs last l = one xs (failing 7) λ a. a .base last l ⨾ asName 6 v (
 
 -- the last member of the path is this one; not float only, USES_MEMBERS
 unfoldable pub memberRead : Post → Payload → List Lowerings → Bool → Lowering
-memberRead p v xs l = flagged (λ f. sets 16 (notFloatOnly f)) (asName 6 v (failing 7) (λ n. chained p v xs n l))
+memberRead p v xs l = flagged (λ f. sets USES-MEMBERS (notFloatOnly f)) (asName 6 v (failing 7) (λ n. chained p v xs n l))
 
 unfoldable pub withRoot : Payload → (StoreRoot → Lowering) → Lowering
 withRoot v f = asName 4 v (asName 5 v (f rootOther) (λ n. withTemp n λ t. f (rootTemp t))) (λ n. withName n λ k. f (rootVar k))
 
 -- a store to a member path; not float only, USES_MEMBERS
 unfoldable pub member-if : Bool → Path → ℕ → Lowering
-member-if true m q = flagged (λ f. sets 16 (notFloatOnly f)) (withRoot (m .root) λ r. withStore (record { root = r; path = m .hashes }) λ k. put (plain (storeMember k q)))
+member-if true m q = flagged (λ f. sets USES-MEMBERS (notFloatOnly f)) (withRoot (m .root) λ r. withStore (record { root = r; path = m .hashes }) λ k. put (plain (storeMember k q)))
 member-if false m q = failing 7
 
 unfoldable pub isMember : Rule → Bool
@@ -77,7 +78,7 @@ unless (suc r) f = failing (suc r)
 -- the value f goes to the first child; HAS_ASSIGNMENT
 unfoldable pub target : Forest → Lowering → Post → Lowering
 target nil f p = failing 7
-target (cons (node op q v us) ts) f p = unless (targetRefusal (ruleAt op) v) (flagged (sets 32) (f ⨾ stores (ruleAt op) v (path (node op q v us)) p))
+target (cons (node op q v us) ts) f p = unless (targetRefusal (ruleAt op) v) (flagged (sets HAS-ASSIGNMENT) (f ⨾ stores (ruleAt op) v (path (node op q v us)) p))
 
 -- ---- logic
 
@@ -113,7 +114,7 @@ hosted f k p a (b ∷ xs) l = pushed (a .expr l) (hosted f k p b xs l)
 
 -- USES_RANDOM and USES_RANDOM_OP under HostMathVolatile
 unfoldable pub volatileBits : Bool → ℕ
-volatileBits true = 1536
+volatileBits true = USES-RANDOM + USES-RANDOM-OP
 volatileBits false = 0
 
 -- ---- calls
@@ -158,7 +159,7 @@ query v m p xs c b n s = withPost p (λ q. put (call (length (s .pools .calls)) 
 
 -- "pointer and load intern the post first"; not float only, USES_ARROW
 unfoldable pub pointed : Post → List Lowerings → Bool → Lowering
-pointed p xs l = flagged (λ f. sets 128 (notFloatOnly f)) (two xs (failing 7) λ a b. withPost p λ q. a .expr l ⨾ guarded (pointerEnter q) same (b .expr l ⨾ put (plain (pointerLeave q))))
+pointed p xs l = flagged (λ f. sets USES-ARROW (notFloatOnly f)) (two xs (failing 7) λ a b. withPost p λ q. a .expr l ⨾ guarded (pointerEnter q) same (b .expr l ⨾ put (plain (pointerLeave q))))
 
 -- ---- control
 
@@ -202,8 +203,8 @@ module _ (S : Settings) where
   lowerPlain R.coalesce p v ts xs l = two xs (failing 7) λ a b. fork handlerPush handlerPop handler+ (a .expr l) (b .expr l) ⨾ postInstruction p
   lowerPlain R.conditional p v ts xs l = P.some xs (failing 7) λ a ys. P.some ys (failing 7) λ b zs. a .expr l ⨾ fork (guard jumpIfFalsy) jump same (b .expr l) (one zs (constant 0) λ c. c .expr l) ⨾ postInstruction p
   lowerPlain R.statements p v ts xs l = statements (p .offset) xs l
-  lowerPlain R.loop p v ts xs l = flagged (sets 64) (two xs (failing 7) λ a b. a .expr l ⨾ looped (b .expr true) ⨾ constant (fold p 0))
-  lowerPlain R.forEach p v ts xs l = flagged (λ f. notFloatOnly (sets 64 f)) (three xs (failing 7) λ a b c. variable ts λ i. b .expr l ⨾ eached i (c .expr true) ⨾ constant (fold p 0))
+  lowerPlain R.loop p v ts xs l = flagged (sets HAS-LOOPS) (two xs (failing 7) λ a b. a .expr l ⨾ looped (b .expr true) ⨾ constant (fold p 0))
+  lowerPlain R.forEach p v ts xs l = flagged (λ f. notFloatOnly (sets HAS-LOOPS f)) (three xs (failing 7) λ a b c. variable ts λ i. b .expr l ⨾ eached i (c .expr true) ⨾ constant (fold p 0))
   lowerPlain R.break p v ts xs l = jumps toCleanup l
   lowerPlain R.continue p v ts xs l = jumps toCheck l
   lowerPlain R.assign p v ts xs l = P.some xs (failing 7) λ a ys. target ts (one ys (constant (constOf v)) λ b. b .expr l) p
@@ -233,8 +234,3 @@ module _ (S : Settings) where
     pub lowers : Forest → List Lowerings
     lowers nil = []
     lowers (cons t ts) = lower t ∷ lowers ts
-
--- opens the lowering where an example is computed
-unfoldable pub lowering-opens : Unit {0}
-unfolding loaded chained memberRead withRoot member-if isMember stores-if stores targetRefusal unless target junction stepOf lastOf equalConst unaryOf addition hosted volatileBits arguments fill isEmpty pointed statements returning eachOf variable array-if lowerPlain lowerRule lower lowers
-lowering-opens = tt

@@ -181,8 +181,3 @@ follow P (suc n) (go m) = follow P n (step P m)
 -- 01, Walk: "and the step machine at the first instruction of the image written, both with nothing open and with the same outcomes"
 abbrev pub start : List Bool → Next
 start outcomes = go (machine 0 (begin outcomes) [] [])
-
--- opens the step machine where an example is computed
-unfoldable pub machine-opens : Unit {0}
-unfolding rootAt plainAction takingAction taken readingAction guardAction guardUp eachAction missed cut check close enter leave execute step follow
-machine-opens = tt

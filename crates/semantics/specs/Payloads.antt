@@ -113,8 +113,3 @@ unfoldable mutual
   pub paths : Forest → Path
   paths nil = noPath
   paths (cons t ts) = path t
-
--- opens what a rule reads in a payload where an example is computed
-unfoldable pub payload-opens : Unit {0}
-unfolding asName asHash asMath asQuery floatOf constOf stringOf resourceOf link path paths
-payload-opens = tt

@@ -6,6 +6,7 @@ use lib.ListN.{length}
 use native.Mathlib.Decide.{ℕ-discrete}
 use Rattle.numeric.specs.Post.{Post, isIdentity}
 use Rattle.ast.specs.Tree.{Name}
+use Rattle.program.specs.Kinds.{USES-TEMPS}
 use Rattle.program.specs.Instruction.{const, post, Guard, EachNext, Instruction, plain, guard, push, loopEnd, halt, pushConst, jump, loopBegin, loopCheck, eachBegin, eachNext}
 use Rattle.program.specs.Program.{Counts, MemberStore}
 use Rattle.semantics.specs.Positions.{past, slot, intern, pair-discrete}
@@ -83,7 +84,7 @@ withSlot v f c b n s = f (slot itself ℕ-discrete v 0 (s .pools .temps)) c b n 
 
 -- a temp: its name first, then its slot; USES_TEMPS
 abbrev pub withTemp : Name → (ℕ → Lowering) → Lowering
-withTemp v f = flagged (sets 4) (withName v λ k. withSlot k f)
+withTemp v f = flagged (sets USES-TEMPS) (withName v λ k. withSlot k f)
 
 abbrev pub readKey : MemberRead → ℕ × ℕ
 readKey r = (r .own .hash, r .last .hash)
@@ -154,8 +155,3 @@ eached i f c = flush λ n s.
 unfoldable pub jumps : Item → Bool → Lowering
 jumps i true c = flush λ n s. emit (i ∷ []) s
 jumps i false c = flush λ n s. emit (instr halt ∷ []) s
-
--- opens the pieces of lowering where an example is computed
-unfoldable pub pieces-opens : Unit {0}
-unfolding flush putConst post-if postInstruction-if jumps
-pieces-opens = tt

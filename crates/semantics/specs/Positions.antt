@@ -31,8 +31,3 @@ pair-discrete a b = elim (ℕ-discrete (a .0) (b .0)) [
   | yes p ↦ elim (ℕ-discrete (a .1) (b .1)) [ yes q ↦ yes (λ i. (p i, q i)) | no q ↦ no (λ e. q (ap (λ x. x .1) e)) ]
   | no p ↦ no (λ e. p (ap (λ x. x .0) e))
 ]
-
--- opens the search of a pool where an example is computed
-unfoldable pub pool-opens : Unit {0}
-unfolding ℕ-discrete slot intern pair-discrete
-pool-opens = tt

@@ -42,8 +42,3 @@ ruleAt op = getD rules (ruleOf op) (plain refused)
 pub record Settings : Type 0 where
   pub fromHost : Bool
   pub absolute : Bool
-
--- opens the rule of a code where an example is computed
-unfoldable pub rule-opens : Unit {0}
-unfolding rules ruleAt
-rule-opens = tt

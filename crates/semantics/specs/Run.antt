@@ -111,8 +111,3 @@ pub record Behaviour : Type 0 where
 
 unfoldable pub behaviour : List Bool → Result → Behaviour
 behaviour outcomes r = record { log = reverse (r .log); ending = r .ending; used = length outcomes - length (r .left) }
-
--- opens a run's pieces where an example is computed
-unfoldable pub run-opens : Unit {0}
-unfolding opens closes pick behaviour
-run-opens = tt

@@ -6,6 +6,7 @@ use Prim.Native.Nat.{ℕ, zero, suc, max}
 use lib.Bits.{bitAnd, bitOr}
 use Rattle.numeric.specs.Post.{Post}
 use Rattle.ast.specs.Tree.{Name}
+use Rattle.program.specs.Kinds.{FLOAT-ONLY, USES-QUERIES}
 use Rattle.program.specs.Instruction.{Instruction}
 use Rattle.program.specs.Program.{Counts, MemberStore}
 use Rattle.semantics.specs.Run.{nothing-open}
@@ -76,7 +77,7 @@ pub record Flags : Type 0 where
 
 -- FLOAT_ONLY and float_loop are set until something clears them
 abbrev pub allFloat : Flags
-allFloat = record { bits = 1; floatLoop = true }
+allFloat = record { bits = FLOAT-ONLY; floatLoop = true }
 
 unfoldable pub sets : ℕ → Flags → Flags
 sets k f = record { bits = bitOr (f .bits) k; floatLoop = f .floatLoop }
@@ -87,7 +88,7 @@ notFloatOnly f = record { bits = bitAnd (f .bits) 2046; floatLoop = false }
 
 -- 01, Bench pieces, M4 and M5: a query clears FLOAT_ONLY, and float_loop too if it has arguments
 unfoldable pub queried : Bool → Flags → Flags
-queried alone f = record { bits = bitOr (bitAnd (f .bits) 2046) 256; floatLoop = cond alone (f .floatLoop) false }
+queried alone f = record { bits = bitOr (bitAnd (f .bits) 2046) USES-QUERIES; floatLoop = cond alone (f .floatLoop) false }
 
 pub record State : Type 0 where
   pub pools : Pools
@@ -117,8 +118,3 @@ first (suc m) n = suc m
 
 abbrev pub fail : ℕ → State → State
 fail n s = record { pools = s .pools; deepest = s .deepest; flags = s .flags; refusal = first (s .refusal) n }
-
--- opens the flags and the first refusal where an example is computed
-unfoldable pub state-opens : Unit {0}
-unfolding sets notFloatOnly queried first
-state-opens = tt

@@ -299,8 +299,3 @@ finish (out w) = result byOut w
 -- 01, Walk: "The walk starts at the root .. with nothing open"
 unfoldable pub walked : Settings → Tree → List Bool → Result
 walked S t outcomes = finish (walk S t .expr inside (begin outcomes))
-
--- opens the walk where an example is computed
-unfoldable pub walk-opens : Unit {0}
-unfolding after misses otherwise round rounds nexts segment arguments shown posted-if jumps statements junction stepAction lastAction addition hosted few unaryAction rootShown stores target eachOf variable loaded walkPlain chained pointed returning walkRule walk walks finish walked
-walk-opens = tt

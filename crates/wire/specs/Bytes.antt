@@ -29,8 +29,3 @@ reach s p k = min (p + k) (length s)
 unfoldable pub be : ℕ → ℕ → List ℕ → List ℕ
 be zero v r = r
 be (suc k) v r = v / 256 ^ k ∷ be k (v % 256 ^ k) r
-
--- opens the numbers of bytes where an example is computed
-unfoldable pub bytes-opens : Unit {0}
-unfolding be16 be32 be64 be
-bytes-opens = tt

@@ -43,8 +43,3 @@ module _ {A : Type 0} (get : List ℕ → Got A) where
 
   unfoldable pub lists : ℕ → List ℕ → Got (List A)
   lists k = u k and times
-
--- opens the readers and the writers of lists where an example is computed
-unfoldable pub reader-opens : Unit {0}
-unfolding _and_ number entries list times lists
-reader-opens = tt
