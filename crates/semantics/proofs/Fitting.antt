@@ -19,13 +19,14 @@ use Rattle.semantics.proofs.FitTrees.{TreeFits}
 use Rattle.semantics.proofs.RangedJumps.{fits-end}
 use Rattle.semantics.proofs.RangedRules.{tree-r}
 use Rattle.semantics.proofs.Ranges.{Fits, ones, total, FitText, FitRead, FitInfo, Good, Done, Ranged, past-weigh, shift, not-fit, every-append, _then-r_, put-r}
-use Rattle.semantics.proofs.Sizes.{held, bytes, weigh-length, starts, all-paid, nodes-bytes, sizes}
+use Rattle.semantics.proofs.Sizes.{held, bytes, weigh-length, all-paid, nodes-bytes, sizes}
 use Rattle.semantics.specs.Demand3.{AtMost}
 use Rattle.semantics.specs.Link.{settle, place-segments, offsetsOf, place-call, memberEntry, finalFlags, lowered, link, program}
 use Rattle.semantics.specs.Lowering.{lower}
 use Rattle.semantics.specs.Payloads.{path}
 use Rattle.semantics.specs.Pieces.{put, _⨾_}
 use Rattle.semantics.specs.Positions.{_⊕_, past}
+use Rattle.semantics.specs.Regions.{argumentStarts}
 use Rattle.semantics.specs.Rule.{Settings}
 use Rattle.semantics.specs.Run.{nothing-open}
 use Rattle.semantics.specs.State.{Item, CallInfo, MemberRead, Flags, notFloatOnly, empty}
@@ -80,7 +81,7 @@ fit-stores : (xs : List MemberStore) → stored ones xs ≤ 65535 → Every (λ 
 fit-stores [] h q = tt
 fit-stores (v ∷ vs) h q = let e = weigh-length 1 (v .path) in (record { root = q .0 .0; path = record { short = omega arith; each = q .0 .1 } }, fit-stores vs (omega arith) (q .1))
 
-fit-calls : (b : ℕ) → b ≤ 65535 → (xs : List CallInfo) → starts (map (place-call b) xs) ≤ 65535 → Every FitInfo xs → Every FitCall (map (place-call b) xs)
+fit-calls : (b : ℕ) → b ≤ 65535 → (xs : List CallInfo) → argumentStarts (map (place-call b) xs) ≤ 65535 → Every FitInfo xs → Every FitCall (map (place-call b) xs)
 unfolding place-call
 fit-calls b h [] l q = tt
 fit-calls b h (i ∷ is) l q = (

@@ -21,6 +21,7 @@ pub mod RangedRules
 pub mod Fitting
 pub mod AcceptedTrees
 pub mod Demand3
+pub mod Regions
 pub mod Examples
 pub mod BenchPieces
 pub mod Slips

@@ -12,7 +12,6 @@ use Rattle.semantics.proofs.Bounds.{Less}
 use Rattle.semantics.proofs.Positions.{Holds, past-length, whole-list}
 use Rattle.semantics.proofs.Relations.{Zip, znil, zcons, zip-length}
 use Rattle.semantics.proofs.Simulation.{hasHandler, Place, at}
-use Rattle.semantics.proofs.Sizes.{starts}
 use Rattle.semantics.specs.Link.{relocate, settle}
 use Rattle.semantics.specs.Lowering.{query, Lowerings, pasts, Arguments, close-segment, fill, called}
 use Rattle.semantics.specs.Machine.{enter, leave, execute}

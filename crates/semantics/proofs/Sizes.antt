@@ -6,11 +6,12 @@ use native.Mathlib.Omega.{arith}
 use native.Mathlib.Nat.{mul-suc, mul-zero}
 use lib.ListN.{length, length-append, length-map}
 use Rattle.ast.specs.Tree.{Payload, pNone, pFloat, pHash, pMath, pName, pQuery, Tree, node, Forest, nil, cons}
-use Rattle.program.specs.Program.{MemberStore, QueryCall, Program}
+use Rattle.program.specs.Program.{MemberStore, Program}
 use Rattle.semantics.proofs.CostedRules.{pay, own, cost, costs, sized}
 use Rattle.semantics.proofs.Costs.{Weight, weigh, stored, asked, apart, sz}
 use Rattle.semantics.specs.Link.{settle, place-segments, offsetsOf, place-call, memberEntry, lowered, link, program}
 use Rattle.semantics.specs.Positions.{_⊕_, past}
+use Rattle.semantics.specs.Regions.{pathEntries, argumentStarts}
 use Rattle.semantics.specs.Rule.{Settings}
 use Rattle.semantics.specs.State.{Item, CallInfo}
 
@@ -106,20 +107,11 @@ wCall = record { i = 0; co = 0; po = 0; ha = 0; na = 0; te = 0; me = 0; sa = 0; 
 abbrev wArg : Weight
 wArg = record { i = 0; co = 0; po = 0; ha = 0; na = 0; te = 0; me = 0; sa = 0; sm = 0; pa = 0; ca = 0; ar = 1 }
 
--- the lists that weigh by their entries' lists
-abbrev pub entries : List MemberStore → ℕ
-entries [] = 0
-entries (v ∷ vs) = length (v .path) + entries vs
-
-abbrev pub starts : List QueryCall → ℕ
-starts [] = 0
-starts (v ∷ vs) = length (v .starts) + starts vs
-
 stores-count : (xs : List MemberStore) → 41 * length xs ≤ stored wStore xs
 stores-count [] = omega arith
 stores-count (v ∷ vs) = let h = stores-count vs in omega arith
 
-paths-count : (xs : List MemberStore) → stored wPath xs ≡ 25 * entries xs
+paths-count : (xs : List MemberStore) → stored wPath xs ≡ 25 * pathEntries xs
 paths-count [] = omega arith
 paths-count (v ∷ vs) = let h = paths-count vs in let i = weigh-length 25 (v .path) in omega arith
 
@@ -127,7 +119,7 @@ calls-count : (xs : List CallInfo) → length xs ≤ asked wCall xs
 calls-count [] = omega arith
 calls-count (v ∷ vs) = let h = calls-count vs in omega arith
 
-args-count : (b : ℕ) (xs : List CallInfo) → starts (map (place-call b) xs) ≡ asked wArg xs
+args-count : (b : ℕ) (xs : List CallInfo) → argumentStarts (map (place-call b) xs) ≡ asked wArg xs
 unfolding place-call
 args-count b [] = refl
 args-count b (v ∷ vs) = let h = args-count b vs in let i = weigh-length 1 (offsetsOf (v .offsets)) in let j = length-map (offsetsOf (v .offsets)) (b ⊕_) in omega arith
@@ -163,12 +155,12 @@ pub record Sizes (n m : ℕ) (P : Program) : Type 0 where
   pub posts : length (P .posts) ≤ suc n
   pub hashes : length (P .hashes) ≤ n
   pub calls : length (P .calls) ≤ n
-  pub args : starts (P .calls) ≤ n
+  pub args : argumentStarts (P .calls) ≤ n
   pub names : 25 * length (P .names) ≤ m
   pub temps : 25 * length (P .temps) ≤ m
   pub members : 25 * length (P .members) ≤ m
   pub stores : 41 * length (P .stores) ≤ m
-  pub paths : 25 * entries (P .stores) ≤ m
+  pub paths : 25 * pathEntries (P .stores) ≤ m
 
 module _ (S : Settings) (t : Tree) where
   code-size : length (program S t .code) ≤ 3 * nodes t
@@ -201,7 +193,7 @@ module _ (S : Settings) (t : Tree) where
       let j = calls-count (x .state .pools .calls) in
       let k = length-map (x .state .pools .calls) (place-call (past (x .code) 0)) in omega arith
 
-  arg-size : starts (program S t .calls) ≤ nodes t
+  arg-size : argumentStarts (program S t .calls) ≤ nodes t
   unfolding program link sz
   arg-size = let x = lowered S t in let h = sized wArg S t in let i = all-paid wArg (λ v. 1) (λ v. let f = free wArg (omega arith) v in omega arith) t in let j = args-count (past (x .code) 0) (x .state .pools .calls) in omega arith
 
@@ -221,7 +213,7 @@ module _ (S : Settings) (t : Tree) where
   unfolding program link sz
   store-size = let h = sized wStore S t in let i = all-paid wStore held (λ v. let f = dear wStore 16 (omega arith) (omega arith) v in omega arith) t in let o = stores-count (lowered S t .state .pools .stores) in omega arith
 
-  path-size : 25 * entries (program S t .stores) ≤ bytes t
+  path-size : 25 * pathEntries (program S t .stores) ≤ bytes t
   unfolding program link sz
   path-size = let h = sized wPath S t in let i = all-paid wPath held (λ v. let f = dear wPath 0 (omega arith) (omega arith) v in omega arith) t in let o = paths-count (lowered S t .state .pools .stores) in omega arith
 

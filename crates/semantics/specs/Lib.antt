@@ -11,5 +11,6 @@ pub mod Link
 pub mod Compiled
 pub mod Answer
 pub mod Demand3
+pub mod Regions
 pub mod Examples
 pub mod BenchPieces
