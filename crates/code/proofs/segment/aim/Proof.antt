@@ -1,0 +1,73 @@
+use native.Mathlib.Omega.{arith}
+use borrow.Author.Needs.{needs}
+use mathlib.Core.Path.{_≡_, refl, sym, ap, _∙_}
+use mathlib.Core.List.{List, [], _∷_}
+use Prim.Native.Nat.{ℕ, _+_, _*_, _≤_, _<_}
+use lib.ListN.{length, getD, set}
+use borrow.Author.Tests.{le-leb, lt-leb, eq-eqb, ne-eqb}
+use Rattle.code.specs.Segments.{emitted, emittedTop, targeted, aimedOne, aimedRange, copiedRange, moved, movedCount, BREAK, CONTINUE}
+use Rattle.code.proofs.Runs.{pair-written, aim-on, aim-end, copy-on, copy-end, aim-next, copy-next}
+use Rattle.code.proofs.segment.aim.Statement.{statement}
+use Rattle.code.proofs.segment.aim.Tie as tie
+use Rattle.code.proofs.segment.aim.Reads as reads
+use Rattle.code.proofs.segment.aim.Lts as lts
+use Rattle.code.proofs.segment.aim_one.Reads as aim-one-reads
+use Rattle.code.proofs.segment.wide.Reads as wide-reads
+
+abbrev Inv-loop : tie.InvT-loop
+Inv-loop ws₀ from count check cleanup at₀ left₀ ws at left = (at + left ≤ 200000) × (length ws ≡ length ws₀) × (aimedRange ws at left check cleanup ≡ aimedRange ws₀ from count check cleanup)
+
+abbrev μ-loop : tie.MeasureT-loop
+μ-loop ws₀ from count check cleanup at₀ left₀ ws at left = left
+
+-- src/segment.rt:79:9
+wide-requires : tie.Need-wide-requires Inv-loop μ-loop
+wide-requires c κs = search needs
+
+-- src/segment.rt:81:5
+loop-holds : tie.Need-loop-holds Inv-loop μ-loop
+loop-holds c = (omega (arith, c .wide .ensures .1), refl, ap (λ (j : ℕ). aimedRange (c .before .before .args .ws .now) j (c .before .before .args .count) (c .before .before .args .check) (c .before .before .args .cleanup)) (c .wide .ensures .0))
+
+-- src/segment.rt:82:9
+aim-one-requires : tie.Need-aim-one-requires Inv-loop μ-loop
+aim-one-requires c κs = search needs
+
+-- src/segment.rt:83:9
+add-at : tie.Need-add-at Inv-loop μ-loop
+add-at c = search needs
+
+-- src/segment.rt:84:9
+sub-left : tie.Need-sub-left Inv-loop μ-loop
+sub-left c = search needs
+
+-- src/segment.rt:81:5
+loop-less : tie.Need-loop-less Inv-loop μ-loop
+loop-less c = search needs
+
+-- src/segment.rt:81:5
+loop-again : tie.Need-loop-again Inv-loop μ-loop
+loop-again c = (omega arith, c .before .before .aim-one .kept .0 ∙ c .before .before .before .before .before .loop .inv .1, aim-next (c .before .before .before .before .before .loop .ws) _ _ _ _ _ _ (c .before .before .aim-one .ensures) (c .before .before .before .before .loop-test .taken) refl (omega arith) (c .before .before .before .before .before .loop .inv .2))
+
+-- src/segment.rt:76:1
+same-length : tie.Need-same-length Inv-loop μ-loop
+same-length c = c .before .loop .inv .1
+
+-- src/segment.rt:76:1
+returns : tie.Need-returns Inv-loop μ-loop
+returns c = sym (aim-end _ _ _ _ _ (omega arith)) ∙ c .before .loop .inv .2
+
+pub aim-spec : {M : Type 1} → statement M
+aim-spec =
+    tie.close
+    (tie.spec
+    Inv-loop
+    μ-loop
+    wide-requires
+    loop-holds
+    aim-one-requires
+    add-at
+    sub-left
+    loop-less
+    loop-again
+    same-length
+    returns)

@@ -1,0 +1,51 @@
+-- Instructions in the workspace's words: appended, given a target, aimed by their loop, moved to the finished code. Definitions only.
+use mathlib.Core.Bool.{Bool, cond}
+use mathlib.Core.List.{List, [], _∷_}
+use Prim.Native.Nat.{ℕ, zero, suc, _+_, _*_}
+use lib.Dec.{eqb, leb}
+use lib.ListN.{getD, set}
+use lib.Seq.{sets}
+
+-- 2,048 instructions of two words from word 0 on; a full region is left as it is
+unfoldable pub emitted : List ℕ → ℕ → ℕ → ℕ → List ℕ
+emitted words top front back = cond (leb (top + 1) 2048) (sets words (top * 2) (front ∷ back ∷ [])) words
+
+unfoldable pub emittedTop : ℕ → ℕ
+emittedTop top = cond (leb (top + 1) 2048) (top + 1) top
+
+-- the second word of an instruction is its target
+unfoldable pub targeted : List ℕ → ℕ → ℕ → List ℕ
+targeted words at target = cond (leb (at + 1) 2048) (set words (at * 2 + 1) target) words
+
+-- the first words of a Break and a Continue that wait for their loop, and of a Jump
+abbrev pub BREAK : ℕ
+BREAK = 0xfa00_0000
+
+abbrev pub CONTINUE : ℕ
+CONTINUE = 0xfb00_0000
+
+abbrev pub JUMP : ℕ
+JUMP = 0x2000_0000
+
+-- a Break or Continue of a loop's body becomes a Jump
+unfoldable pub aimedOne : List ℕ → ℕ → ℕ → ℕ → List ℕ
+aimedOne words at check cleanup =
+    cond (eqb (getD words (at * 2) 0) BREAK) (sets words (at * 2) (JUMP ∷ cleanup ∷ []))
+    (cond (eqb (getD words (at * 2) 0) CONTINUE) (sets words (at * 2) (JUMP ∷ check ∷ [])) words)
+
+-- those of n instructions from a place on
+unfoldable pub aimedRange : List ℕ → ℕ → ℕ → ℕ → ℕ → List ℕ
+aimedRange words at zero check cleanup = words
+aimedRange words at (suc n) check cleanup = aimedRange (aimedOne words at check cleanup) (suc at) n check cleanup
+
+-- n words copied, one after the other
+unfoldable pub copiedRange : List ℕ → ℕ → ℕ → ℕ → List ℕ
+copiedRange words from to zero = words
+copiedRange words from to (suc n) = copiedRange (set words to (getD words from 0)) (suc from) (suc to) n
+
+-- n instructions of the open code put behind the finished ones
+unfoldable pub moved : List ℕ → ℕ → ℕ → ℕ → List ℕ
+moved words from n finished = cond (leb (finished + n) 2048) (copiedRange words (from * 2) (4096 + finished * 2) (n * 2)) words
+
+unfoldable pub movedCount : ℕ → ℕ → ℕ
+movedCount n finished = cond (leb (finished + n) 2048) (finished + n) finished

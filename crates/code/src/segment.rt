@@ -1,0 +1,127 @@
+// Instructions in the workspace: the open code from word 0 on, the finished argument code from word 4096 on, 2048 of two words each.
+// An instruction's words: opcode * 2^24 + sub * 2^16 + B, then A. A full region is left as it is.
+ghost use mathlib.Core.Path.{_≡_};
+ghost use mathlib.Core.List.{[], _∷_};
+ghost use Prim.Native.Nat.{_+_, _*_, _<_};
+ghost use lib.ListN.{length, getD, set};
+ghost use lib.Seq.{sets};
+ghost use Rattle.code.specs.Segments.{emitted, emittedTop, targeted, aimedOne, aimedRange, copiedRange, moved, movedCount};
+
+// The first words of a Break and a Continue that wait for their loop (no opcodes of the card), and of a Jump.
+pub const BREAK: u32 = 0xfa00_0000;
+
+pub const CONTINUE: u32 = 0xfb00_0000;
+
+pub const JUMP: u32 = 0x2000_0000;
+
+// The instructions that a region holds, and the word at which the finished ones begin.
+const ROOM: u16 = 2048;
+
+const FINISHED: usize = 4096;
+
+// A word of the workspace; past its end 0.
+fn word(ws: &[u32], at: usize) -> u32
+    ensures { λ r. ⌜ r ≡ getD (now (ws .entry)) at 0 ⌝ }
+{
+    if at < ws.len() { ws[at] } else { 0 }
+}
+
+fn put_word(ws: &mut [u32], at: usize, w: u32)
+    ensures { λ _. ⌜ now (ws .exit) ≡ set (now (ws .entry)) at w ⌝ }
+{
+    if at < ws.len() {
+        ws[at] = w;
+    }
+}
+
+fn put_pair(ws: &mut [u32], at: usize, a: u32, b: u32)
+    requires { ⌜ at + 1 < 18446744073709551616 ⌝ }
+    ensures { λ _. ⌜ now (ws .exit) ≡ sets (now (ws .entry)) at (a ∷ b ∷ []) ⌝ }
+{
+    put_word(ws, at, a);
+    put_word(ws, at + 1, b);
+}
+
+fn wide(x: u16) -> usize
+    ensures { λ r. ⌜ r ≡ x ⌝ ∗ ⌜ r < 65536 ⌝ }
+{
+    x as usize
+}
+
+// Appends an instruction to the open code, and gives the place after it.
+pub fn emit(ws: &mut [u32], top: u16, front: u32, back: u32) -> u16
+    ensures { λ r. ⌜ (r ≡ emittedTop top) × (now (ws .exit) ≡ emitted (now (ws .entry)) top front back) ⌝ }
+{
+    if top < ROOM {
+        put_pair(ws, wide(top) * 2, front, back);
+        return top + 1;
+    }
+    top
+}
+
+// Gives the instruction at a place of the open code its target.
+pub fn set_target(ws: &mut [u32], at: u16, target: u32)
+    ensures { λ _. ⌜ now (ws .exit) ≡ targeted (now (ws .entry)) at target ⌝ }
+{
+    if at < ROOM {
+        put_word(ws, wide(at) * 2 + 1, target);
+    }
+}
+
+// A Break or Continue that waits becomes a Jump to its loop's end or check.
+fn aim_one(ws: &mut [u32], at: usize, check: u32, cleanup: u32)
+    requires { ⌜ at < 4294967296 ⌝ }
+    ensures { λ _. ⌜ now (ws .exit) ≡ aimedOne (now (ws .entry)) at check cleanup ⌝ }
+{
+    let i = at * 2;
+    let front = word(ws, i);
+    if front == BREAK {
+        put_pair(ws, i, JUMP, cleanup);
+        return;
+    }
+    if front == CONTINUE {
+        put_pair(ws, i, JUMP, check);
+    }
+}
+
+// Aims the Breaks and Continues of a loop's body: `count` instructions from a place of the open code on.
+pub fn aim(ws: &mut [u32], from: u16, count: u16, check: u32, cleanup: u32)
+    ensures { λ _. ⌜ now (ws .exit) ≡ aimedRange (now (ws .entry)) from count check cleanup ⌝ }
+{
+    let mut at = wide(from);
+    let mut left = count;
+    while left > 0 {
+        aim_one(ws, at, check, cleanup);
+        at += 1;
+        left -= 1;
+    }
+}
+
+fn copy_words(ws: &mut [u32], from: usize, to: usize, count: usize)
+    requires { ⌜ (from + count < 4294967296) × (to + count < 4294967296) ⌝ }
+    ensures { λ _. ⌜ now (ws .exit) ≡ copiedRange (now (ws .entry)) from to count ⌝ }
+{
+    let mut a = from;
+    let mut b = to;
+    let mut left = count;
+    while left > 0 {
+        let w = word(ws, a);
+        put_word(ws, b, w);
+        a += 1;
+        b += 1;
+        left -= 1;
+    }
+}
+
+// Puts `count` instructions of the open code behind the finished ones, and gives how many are finished then.
+pub fn move_segment(ws: &mut [u32], from: u16, count: u16, finished: u16) -> u16
+    ensures { λ r. ⌜ (r ≡ movedCount count finished) × (now (ws .exit) ≡ moved (now (ws .entry)) from count finished) ⌝ }
+{
+    let n = wide(count);
+    let d = wide(finished);
+    if d + n <= 2048 {
+        copy_words(ws, wide(from) * 2, FINISHED + d * 2, n * 2);
+        return (d + n) as u16;
+    }
+    finished
+}

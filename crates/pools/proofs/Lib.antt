@@ -1,0 +1,5 @@
+pub mod Stores
+pub mod Seek
+pub mod Kept
+pub mod Slots
+pub mod Hits
