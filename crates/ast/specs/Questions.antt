@@ -36,8 +36,7 @@ rooted levels s = row (filled levels s) s 1 7 (length s)
 unfoldable pub whole : List ℕ → Bool
 whole s = leb 5 (length s) && (leb (length s) 6144 && (eqb (be8 s 0 0) 1 && eqb (5 + be32 s 0 1) (length s)))
 
--- 01, Nine questions, 3: "Are both setting bytes 0 or 1, every code and kind known, every node length exact, nothing left over?"
--- A node takes 16 bytes or more, so 6,144 bytes hold no more than 383 levels.
+-- 01, Nine questions, 3: "Are both setting bytes 0 or 1, every code and kind known, every node length exact, nothing left over?" A node takes 16 bytes or more, so 6,144 bytes hold no more than 383 levels.
 unfoldable pub formed : List ℕ → Bool
 formed s = leb (be8 s 0 5) 1 && (leb (be8 s 0 6) 1 && rooted 383 s)
 

@@ -28,8 +28,7 @@ unfoldable pub isSet : ℕ → Bool
 isSet zero = false
 isSet (suc n) = true
 
--- 01, The program image: "Sub: .. A is the target or pool index, or HostMath's function, else 0. B is the post; in EachNextVar
--- and EachNextTemp, A is the exit and B the variable; else 0."
+-- 01, The program image: "Sub: .. A is the target or pool index, or HostMath's function, else 0. B is the post; in EachNextVar and EachNextTemp, A is the exit and B the variable; else 0."
 unfoldable pub wordOf : Instruction → Word
 wordOf (plain (const c)) = word 1 0 c 0
 wordOf (plain (hash h)) = word 2 0 h 0

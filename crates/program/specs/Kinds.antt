@@ -1,21 +1,13 @@
--- The plain post's slot, the float loop's limits, and the flags' bits. Definitions only.
+-- The float loop's limits, and the flags' bits. Definitions only.
 use Prim.Native.Nat.{ℕ}
 use mathlib.Core.Bool.{Bool, _&&_}
-use lib.Dec.{eqb, leb}
-
--- 01, Forms: "Slot 0 (`PLAIN`), the identity post and the float-loop limits stand with the kinds they belong to"
-abbrev pub PLAIN : ℕ
-PLAIN = 0
-
-abbrev pub isPlain : ℕ → Bool
-isPlain slot = eqb slot PLAIN
+use lib.Dec.{leb}
 
 -- 01, Modules: "Stack over 16, loops over 4, handlers over 4 or temps over 8 clears FLOAT_ONLY and float_loop"
 unfoldable pub inFloatLoop : ℕ → ℕ → ℕ → ℕ → Bool
 inFloatLoop stack loops handlers temps = leb stack 16 && (leb loops 4 && (leb handlers 4 && leb temps 8))
 
--- 01, The program image: "Flag bits from 0: FLOAT_ONLY, READS_ACTOR_VARS, USES_TEMPS, READS_CONTEXT, USES_MEMBERS, HAS_ASSIGNMENT, HAS_LOOPS, USES_ARROW,
--- USES_QUERIES, USES_RANDOM, USES_RANDOM_OP"
+-- 01, The program image: "Flag bits from 0: FLOAT_ONLY, READS_ACTOR_VARS, USES_TEMPS, READS_CONTEXT, USES_MEMBERS, HAS_ASSIGNMENT, HAS_LOOPS, USES_ARROW, USES_QUERIES, USES_RANDOM, USES_RANDOM_OP"
 abbrev pub FLOAT-ONLY : ℕ
 FLOAT-ONLY = 1
 

@@ -1,4 +1,5 @@
 pub mod Kinds
+pub mod Slots
 pub mod Instruction
 pub mod Program
 pub mod Image

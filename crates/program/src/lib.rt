@@ -1,6 +1,7 @@
 // The kinds of index, each a type of its own, with the constants that stand with them.
 ghost use mathlib.Core.Path.{_≡_};
-ghost use Rattle.program.specs.Kinds.{isPlain, inFloatLoop};
+ghost use Rattle.program.specs.Kinds.{inFloatLoop};
+ghost use Rattle.program.specs.Slots.{isPlain};
 
 pub struct ConstIdx(pub u32);
 

@@ -1,4 +1,3 @@
--- The tree of an image that questions 2 to 4 accept: its fields fit, its texts are bytes, and it is no larger than its image. Assumes nothing.
 use borrow.Author.Tests.{leb-true}
 use Rattle.wire.specs.Bytes.{Bytes, be, be8}
 use Rattle.wire.proofs.Numbers.{be-length}
@@ -19,6 +18,8 @@ use Rattle.program.specs.Fits.{Below, Every}
 use Rattle.program.specs.Instruction.{hash}
 use Rattle.semantics.proofs.FitTrees.{PayloadFits, TreeFits, ForestFits}
 use Rattle.semantics.proofs.Sizes.{held, bytes, mass, masses}
+
+-- The tree of an image that questions 2 to 4 accept: its fields fit, its texts are bytes, and it is no larger than its image. Assumes nothing.
 
 -- bytes behind a number are bytes
 be-tail : (k v : ℕ) (r : List ℕ) → Bytes (be k v r) → Bytes r

@@ -1,8 +1,9 @@
 use mathlib.Core.Path.{refl}
-use mathlib.Core.Bool.{Bool, true, false, cond}
+use mathlib.Core.Bool.{Bool, true, false, cond, _&&_}
 use mathlib.Core.List.{List}
 use Prim.Native.Nat.{ℕ, zero, suc, pred}
 use lib.ListN.{length}
+use lib.Dec.{leb}
 use Rattle.ast.specs.Tree.{Name, Payload, Tree, node, Forest, nil, cons}
 use Rattle.numeric.specs.Post.{Post, isIdentity, fold}
 use Rattle.program.specs.Instruction.{Plain, hash, resource, this, negate, not, andLast, orLast, pointerLeave, storeVar, storeTemp, storeMember, cmpConst, eqConst, eqHash, addAcc, addLast, mul, div, cmp, eq, hostMath, loadVar, loadTemp, loadCtx, arrayElement, member, Guard, divGuard, andStep, orStep, pointerEnter, EachNext, eachNextVar, eachNextTemp, plain}
@@ -12,13 +13,13 @@ use Rattle.semantics.proofs.BoundedRules.{tree-bound}
 use Rattle.semantics.proofs.Relations.{Zip, znil, zcons, zip-length, name-rel, name-left, hash-rel, math-rel, query-rel, one-rel, two-rel, some-rel, just-rel, three-rel}
 use Rattle.semantics.proofs.SimulatedCalls.{Tree-s}
 use Rattle.semantics.proofs.Simulation.{Sim}
-use Rattle.semantics.specs.Lowering.{Lowerings, memberRead, withRoot, member-if, isMember, stores-if, targetRefusal, unless, stepOf, lastOf, equalConst, unaryOf, array-if, lowerPlain, lowerRule, lower, lowers}
+use Rattle.semantics.specs.Lowering.{Lowerings, memberRead, withRoot, memberStore, isMember, targetRefusal, unless, equalConst, arrayElement-of, lowerPlain, lowerRule, lower, lowers}
 use Rattle.semantics.specs.Machine.{rootAt, plainAction, takingAction, taken, readingAction, guardAction, guardUp, eachAction}
 use Rattle.semantics.specs.Payloads.{asHash, floatOf, constOf, some, Path, path}
 use Rattle.semantics.specs.Pieces.{Lowering, put, failing, _⨾_, withName, withTemp, withPost, postInstruction}
 use Rattle.semantics.specs.Rule.{Rule, ruleAt, Settings}
-use Rattle.semantics.specs.Run.{Action, eConst, eHash, eResource, eThis, eNegate, eNot, ePointerLeave, eAddLast, eMul, eDiv, ePointerEnter, eStoreVar, eStoreTemp, eLoadVar, eLoadTemp, eLoadCtx, eArrayElement, eMember, eCmp, eEq, eStoreMember, eCmpConst, eEqConst, eEqHash, eHostMath, eEachNextVar, eEachNextTemp, same, Result}
-use Rattle.semantics.specs.Walk.{Walking, Scope, in-loop, in-handler, _then_, pass, logs, takes, pushes, returns, loads, Walkings, shown, stepAction, lastAction, few, unaryAction, rootShown, walkPlain, walkRule, walk, walks}
+use Rattle.semantics.specs.Run.{Action, eConst, eHash, eResource, eThis, eNegate, eNot, eAndLast, eOrLast, ePointerLeave, eAddLast, eMul, eDiv, eAndStep, eOrStep, ePointerEnter, eStoreVar, eStoreTemp, eLoadVar, eLoadTemp, eLoadCtx, eArrayElement, eMember, eCmp, eEq, eStoreMember, eCmpConst, eEqConst, eEqHash, eHostMath, eEachNextVar, eEachNextTemp, same, Result}
+use Rattle.semantics.specs.Walk.{Walking, Scope, in-loop, in-handler, _then_, pass, logs, takes, pushes, returns, loads, Walkings, shown, rootShown, walkPlain, walkRule, walk, walks}
 use Rattle.semantics.specs.Walk as K
 use Rattle.semantics.specs.Lowering as L
 use Rattle.semantics.specs.Rule as R
@@ -62,8 +63,8 @@ module _ (S : Settings) (P : Program) (E : ℕ) (r : Result) where
   statements-s o (zcons a h) e = a .statement e ⨟ statements-s o h e
 
   junction-s : (j : Bool) (q : ℕ) {l : Lowerings} {m : Walkings} → T′ l m → {ls : List Lowerings} {ms : List Walkings} → Zip T′ ls ms → (e : Scope)
-      → S′ e (L.junction (stepOf j q) (lastOf j q) l ls (e .loop)) (K.junction (stepAction j (postAt P q)) (lastAction j (postAt P q)) m ms e)
-  unfolding L.junction K.junction stepOf lastOf stepAction lastAction plainAction guardAction guardUp
+      → S′ e (L.junction (cond j (andStep q) (orStep q)) (cond j (andLast q) (orLast q)) l ls (e .loop)) (K.junction (cond j (eAndStep (postAt P q)) (eOrStep (postAt P q))) (cond j (eAndLast (postAt P q)) (eOrLast (postAt P q))) m ms e)
+  unfolding L.junction K.junction plainAction guardAction guardUp
   junction-s true q a znil e = a .expr e ⨟ pl (Plain.andLast q)
   junction-s true q a (zcons b h) e = a .expr e ⨟ Y.guarded-s P E r (Guard.andStep q) (junction-s true q b h e)
   junction-s false q a znil e = a .expr e ⨟ pl (Plain.orLast q)
@@ -85,19 +86,14 @@ module _ (S : Settings) (P : Program) (E : ℕ) (r : Result) where
   unfolding withRoot rootShown rootAt
   root-s {e} v g u h = name-rel (λ f x. S′ e f (u x)) 4 v (name-rel (λ f x. S′ e f (u x)) 5 v (h rootOther) (λ n. with-t n _ (λ x. u (rootTemp x)) (λ t. h (rootTemp t)))) (λ n. with-n n _ (λ x. u (rootVar x)) (λ k. h (rootVar k)))
 
-  member-if-s : {e : Scope} (x : Bool) (m : Path) (k : ℕ) → S′ e (member-if x m k) (logs (eStoreMember (rootShown (m .root)) (m .hashes) (postAt P k)))
-  unfolding member-if plainAction
-  member-if-s true m k = Z.flagged-s P E r _ (root-s (m .root) _ (λ x. logs (eStoreMember x (m .hashes) (postAt P k))) (λ x. Z.withStore-s P E r _ _ (λ t. logs (eStoreMember (rootAt P (t .root)) (t .path) (postAt P k))) (λ i. pl (storeMember i k))))
-  member-if-s false m k = no-s
-
-  stores-if-s : {e : Scope} (x : Bool) (m : Path) (k : ℕ) → S′ e (stores-if x m k) (logs (eStoreMember (rootShown (m .root)) (m .hashes) (postAt P k)))
-  unfolding stores-if
-  stores-if-s true m k = member-if-s (m .fine) m k
-  stores-if-s false m k = no-s
+  member-store-s : {e : Scope} (x : Bool) (m : Path) (k : ℕ) → S′ e (cond x (memberStore m k) (failing 7)) (logs (eStoreMember (rootShown (m .root)) (m .hashes) (postAt P k)))
+  unfolding memberStore plainAction
+  member-store-s true m k = Z.flagged-s P E r _ (root-s (m .root) _ (λ x. logs (eStoreMember x (m .hashes) (postAt P k))) (λ x. Z.withStore-s P E r _ _ (λ t. logs (eStoreMember (rootAt P (t .root)) (t .path) (postAt P k))) (λ i. pl (storeMember i k))))
+  member-store-s false m k = no-s
 
   stores-s : {e : Scope} (x : Rule) (v : Payload) (m : Path) (p : Post) → S′ e (L.stores x v m p) (K.stores v m (shown p))
   unfolding L.stores K.stores plainAction
-  stores-s {e} x v m p = with-p p _ (K.stores v m) λ k. name-rel (S′ e) 4 v (name-rel (S′ e) 5 v (stores-if-s (isMember x) m k) (λ n. with-t n _ (λ t. logs (eStoreTemp t (postAt P k))) (λ t. pl (storeTemp t k)))) (λ n. with-n n _ (λ t. logs (eStoreVar t (postAt P k))) (λ i. pl (storeVar i k)))
+  stores-s {e} x v m p = with-p p _ (K.stores v m) λ k. name-rel (S′ e) 4 v (name-rel (S′ e) 5 v (member-store-s (isMember x && m .fine) m k) (λ n. with-t n _ (λ t. logs (eStoreTemp t (postAt P k))) (λ t. pl (storeTemp t k)))) (λ n. with-n n _ (λ t. logs (eStoreVar t (postAt P k))) (λ i. pl (storeVar i k)))
 
   unless-s : {e : Scope} (x : ℕ) {f : Lowering} {u : Walking} → S′ e f u → S′ e (unless x f) u
   unfolding unless
@@ -126,19 +122,19 @@ module _ (S : Settings) (P : Program) (E : ℕ) (r : Result) where
   post-s : {e : Scope} (p : Post) → S′ e (postInstruction p) (K.posted p)
   post-s p = Z.postInstr-s P E r (isIdentity p) p refl
 
-  unary-s : {e : Scope} (u : Bool) (p : Post) → S′ e (withPost p (λ q. put (plain (unaryOf u q)))) (logs (unaryAction u (shown p)))
-  unfolding unaryOf unaryAction plainAction
+  unary-s : {e : Scope} (u : Bool) (p : Post) → S′ e (withPost p (λ q. put (plain (cond u (negate q) (not q))))) (logs (cond u (eNegate (shown p)) (eNot (shown p))))
+  unfolding plainAction
   unary-s true p = with-p p _ (λ q. logs (Action.eNegate q)) (λ k. pl (Plain.negate k))
   unary-s false p = with-p p _ (λ q. logs (Action.eNot q)) (λ k. pl (Plain.not k))
 
   host-s : (f : ℕ) (p : Post) {ls : List Lowerings} {ms : List Walkings} → Zip T′ ls ms → (e : Scope)
-      → S′ e (some ls (failing 7) (λ a ys. cond (few (length ls)) (L.hosted f (length ls) p a ys (e .loop)) (failing 7)))
-      (some ms pass (λ a ys. cond (few (length ms)) (K.hosted (length ys) (eHostMath f (length ms) (shown p)) a ys e) pass))
+      → S′ e (some ls (failing 7) (λ a ys. cond (leb (length ls) 255) (L.hosted f (length ls) p a ys (e .loop)) (failing 7)))
+      (some ms pass (λ a ys. cond (leb (length ms) 255) (K.hosted (length ys) (eHostMath f (length ms) (shown p)) a ys e) pass))
   host-s f p znil e = no-s
-  host-s f p (zcons {qs = ms} a z) e = rw (zip-length z) (fits-s (few (suc (length ms))) (hosted-s f (suc (length ms)) p a z e))
+  host-s f p (zcons {qs = ms} a z) e = rw (zip-length z) (fits-s (leb (suc (length ms)) 255) (hosted-s f (suc (length ms)) p a z e))
 
-  array-s : (x : Bool) (p : Post) (v : Payload) (ts : Forest) {ls : List Lowerings} {ms : List Walkings} → Zip T′ ls ms → (e : Scope) → S′ e (array-if x p v ls (e .loop)) (walkPlain S R.array p v ts ms e)
-  unfolding array-if walkPlain readingAction
+  array-s : (x : Bool) (p : Post) (v : Payload) (ts : Forest) {ls : List Lowerings} {ms : List Walkings} → Zip T′ ls ms → (e : Scope) → S′ e (cond x (arrayElement-of p v ls (e .loop)) (failing 5)) (walkPlain S R.array p v ts ms e)
+  unfolding arrayElement-of walkPlain readingAction
   array-s true p v ts h e = just-rel (S′ e) h no-s λ l m a. name-rel (S′ e) 7 v no-s (λ n. Z.flagged-s P E r _ (a .expr e ⨟ with-n n _ (λ t. loads e (eArrayElement t (shown p))) (λ k. with-p p _ (λ q. loads e (eArrayElement (nameAt P k) q)) (λ q. Y.may-s P E r (arrayElement k q)))))
   array-s false p v ts h e = Z.failing-s P E r 4
 
@@ -160,7 +156,7 @@ module _ (S : Settings) (P : Program) (E : ℕ) (r : Result) where
       with-p p _ (λ q. some ms (m .expr e then asHash v (logs (eEqConst o (floatOf v) q)) (λ x. logs (eEqHash o x q))) λ b zs. m .expr e then pushes then b .expr e then takes 1 (eEq o q)) λ q.
       some-rel (S′ e) z (a .expr e ⨟ hash-rel (S′ e) v (Z.withConst-s P E r _ _ (λ t. logs (eEqConst o t (postAt P q))) (λ k. pl (eqConst o k q))) (λ x. Z.flagged-s P E r _ (Z.withHash-s P E r x _ (λ t. logs (eEqHash o t (postAt P q))) (λ k. pl (eqHash o k q)))))
       λ l m b ls ms z. Z.pushed-s P E r (a .expr e) (b .expr e ⨟ Z.taking-s P E r (eq o q))
-  plain-s (R.logic j) p v ts h e = some-rel (S′ e) h no-s λ l m a ls ms z. with-p p _ (λ q. K.junction (stepAction j q) (lastAction j q) m ms e) (λ q. junction-s j q a z e)
+  plain-s (R.logic j) p v ts h e = some-rel (S′ e) h no-s λ l m a ls ms z. with-p p _ (λ q. K.junction (cond j (eAndStep q) (eOrStep q)) (cond j (eAndLast q) (eOrLast q)) m ms e) (λ q. junction-s j q a z e)
   plain-s R.coalesce p v ts h e = two-rel (S′ e) h no-s λ l m a l′ m′ b. Y.coalesce-s P E r (a .expr (in-handler e)) (b .expr e) ⨟ post-s p
   plain-s R.conditional p v ts h e = some-rel (S′ e) h no-s λ l m a ls ms z. some-rel (S′ e) z no-s λ l m b ls ms z. a .expr e ⨟ Y.branch-s P E r (b .expr e) (one-rel (S′ e) z (Z.constant-s P E r 0) (λ l m c. c .expr e)) ⨟ post-s p
   plain-s R.statements p v ts h e = statements-s _ h e

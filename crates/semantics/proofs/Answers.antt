@@ -4,7 +4,7 @@ use mathlib.Core.List.{List, [], _∷_, _++_, map}
 use Prim.Native.Nat.{ℕ}
 use lib.ListN.{length, replicate}
 use Rattle.semantics.proofs.Opens.{computing}
-use Rattle.semantics.specs.Compiled.{programImage}
+use Rattle.semantics.specs.Link.{programImage}
 use Rattle.semantics.specs.Answer.{Answer, answer, written, outputAfter, workspaceAfter}
 use Rattle.semantics.specs.BenchPieces.{M1, M2, M10}
 

@@ -6,7 +6,7 @@ use lib.ListN.{length}
 use Rattle.program.specs.Program.{Program}
 use Rattle.program.specs.Image.{wordOf, read}
 use Rattle.semantics.proofs.Opens.{computing}
-use Rattle.semantics.specs.Compiled.{programImage}
+use Rattle.semantics.specs.Link.{programImage}
 use Rattle.semantics.specs.Answer.{answer}
 use Rattle.semantics.specs.BenchPieces.{Outcome, accepted, refused, Piece, pieces}
 

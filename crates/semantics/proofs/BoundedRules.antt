@@ -1,25 +1,26 @@
 use mathlib.Core.Path.{_≡_, refl}
-use mathlib.Core.Bool.{Bool, true, false, cond}
+use mathlib.Core.Bool.{Bool, true, false, cond, _&&_}
 use mathlib.Core.List.{List, []}
 use Prim.Native.Nat.{ℕ, zero, suc}
 use native.Mathlib.Omega.{arith}
 use lib.ListN.{length}
+use lib.Dec.{leb}
 use Rattle.ast.specs.Tree.{Name, Payload, Tree, node, Forest, nil, cons}
 use Rattle.numeric.specs.Post.{Post, isIdentity}
-use Rattle.program.specs.Instruction.{Plain, hash, resource, this, pointerLeave, storeVar, storeTemp, storeMember, cmpConst, eqConst, eqHash, addAcc, addLast, mul, div, cmp, eq, hostMath, loadVar, loadTemp, loadCtx, arrayElement, member, Guard, divGuard, pointerEnter, EachNext, eachNextVar, eachNextTemp, plain, taking, reading, end, return}
+use Rattle.program.specs.Instruction.{Plain, hash, resource, this, negate, not, andLast, orLast, pointerLeave, storeVar, storeTemp, storeMember, cmpConst, eqConst, eqHash, addAcc, addLast, mul, div, cmp, eq, hostMath, loadVar, loadTemp, loadCtx, arrayElement, member, Guard, divGuard, andStep, orStep, pointerEnter, EachNext, eachNextVar, eachNextTemp, plain, taking, reading, end, return}
 use Rattle.program.specs.Program.{Counts, StoreRoot, rootVar, rootTemp, rootOther}
 use Rattle.semantics.proofs.BoundedControl.{Whole, load-b, ret-b, break-b, continue-b, guarded-b, branch-b, coalesce-b, looped-b, eached-b, query-b}
 use Rattle.semantics.proofs.Bounds.{In, Less, Bound, Fine, ups, taken-all, ext-bound, after-less, _then-b_, pushed-b, pushed-fine, failing-b, put-b, take-b, flagged-b, post-b, name-b, temp-b, member-b, hash-b, withConst-b, store-b, constant-b, postInstr-b}
 use Rattle.semantics.proofs.Relations.{Zip, znil, zcons, zip-length, name-rel, name-left, hash-rel, math-rel, query-rel, one-rel, two-rel, some-rel, just-rel, three-rel}
 use Rattle.semantics.specs.Demand3.{Within}
 use Rattle.semantics.specs.Link.{lowered}
-use Rattle.semantics.specs.Lowering.{Lowerings, memberRead, withRoot, member-if, isMember, stores-if, targetRefusal, unless, stepOf, lastOf, equalConst, unaryOf, array-if, lowerPlain, lowerRule, lower, lowers}
+use Rattle.semantics.specs.Lowering.{Lowerings, memberRead, withRoot, memberStore, isMember, targetRefusal, unless, equalConst, arrayElement-of, lowerPlain, lowerRule, lower, lowers}
 use Rattle.semantics.specs.Payloads.{Path, path}
 use Rattle.semantics.specs.Pieces.{Lowering, flush, failing}
 use Rattle.semantics.specs.Rule.{Rule, ruleAt, Settings}
 use Rattle.semantics.specs.Run.{Action, eAddLast, eStoreMember, eAddAcc, nothing-open, operand+, operands-, same, begin}
 use Rattle.semantics.specs.State.{empty}
-use Rattle.semantics.specs.Walk.{Completion, normal, missing, broke, again, returned, halted, out, Walking, Scope, inside, in-loop, in-handler, _then_, pass, logs, Walkings, few, rootShown, walkPlain, walkRule, finish, walked, walk, walks}
+use Rattle.semantics.specs.Walk.{Completion, normal, missing, broke, again, returned, halted, out, Walking, Scope, inside, in-loop, in-handler, _then_, pass, logs, Walkings, rootShown, walkPlain, walkRule, finish, walked, walk, walks}
 use Rattle.semantics.specs.Walk as K
 use Rattle.semantics.specs.Lowering as L
 use Rattle.semantics.specs.Rule as R
@@ -58,19 +59,14 @@ unfolding unless
 unless-b zero h = h
 unless-b (suc r) h = failing-b r (h .less)
 
-member-if-b : (x : Bool) (m : Path) (k : ℕ) (q : Post) → Fine (member-if x m k) (logs (eStoreMember (rootShown (m .root)) (m .hashes) q))
-unfolding member-if
-member-if-b true m k q = flagged-b _ (root-b (m .root) _ (λ r. logs (eStoreMember r (m .hashes) q)) (λ r x. store-b _ _ (λ i. put-b (plain (storeMember i k)) _)))
-member-if-b false m k q = failing-b 6 (λ w. omega arith)
-
-stores-if-b : (x : Bool) (m : Path) (k : ℕ) (q : Post) → Fine (stores-if x m k) (logs (eStoreMember (rootShown (m .root)) (m .hashes) q))
-unfolding stores-if
-stores-if-b true m k q = member-if-b (m .fine) m k q
-stores-if-b false m k q = failing-b 6 (λ w. omega arith)
+member-store-b : (x : Bool) (m : Path) (k : ℕ) (q : Post) → Fine (cond x (memberStore m k) (failing 7)) (logs (eStoreMember (rootShown (m .root)) (m .hashes) q))
+unfolding memberStore
+member-store-b true m k q = flagged-b _ (root-b (m .root) _ (λ r. logs (eStoreMember r (m .hashes) q)) (λ r x. store-b _ _ (λ i. put-b (plain (storeMember i k)) _)))
+member-store-b false m k q = failing-b 6 (λ w. omega arith)
 
 stores-b : (r : Rule) (v : Payload) (m : Path) (p q : Post) → Fine (L.stores r v m p) (K.stores v m q)
 unfolding L.stores K.stores
-stores-b r v m p q = post-b p _ λ k. name-rel Fine 4 v (name-rel Fine 5 v (stores-if-b (isMember r) m k q) (λ n. temp-b n _ (λ t. put-b (plain (storeTemp t k)) _))) (λ n. name-b n _ (λ i. put-b (plain (storeVar i k)) _))
+stores-b r v m p q = post-b p _ λ k. name-rel Fine 4 v (name-rel Fine 5 v (member-store-b (isMember r && m .fine) m k q) (λ n. temp-b n _ (λ t. put-b (plain (storeTemp t k)) _))) (λ n. name-b n _ (λ i. put-b (plain (storeVar i k)) _))
 
 target-b : (ts : Forest) {f : Lowering} {u : Walking} → Fine f u → (p q : Post) → Fine (L.target ts f p) (u then K.target ts q)
 unfolding L.target K.target
@@ -98,8 +94,8 @@ no-b : Fine (failing 7) pass
 no-b = failing-b 6 pass-less
 
 module _ (S : Settings) where
-  array-b : (x : Bool) (p : Post) (v : Payload) (ts : Forest) {ls : List Lowerings} {ms : List Walkings} → Zip Whole ls ms → (e : Scope) → Fine (array-if x p v ls (e .loop)) (walkPlain S R.array p v ts ms e)
-  unfolding array-if walkPlain
+  array-b : (x : Bool) (p : Post) (v : Payload) (ts : Forest) {ls : List Lowerings} {ms : List Walkings} → Zip Whole ls ms → (e : Scope) → Fine (cond x (arrayElement-of p v ls (e .loop)) (failing 5)) (walkPlain S R.array p v ts ms e)
+  unfolding arrayElement-of walkPlain
   array-b true p v ts h e = just-rel Fine h no-b λ l m a. name-rel Fine 7 v no-b (λ n. flagged-b _ (a .expr e then-b name-b n _ (λ k. post-b p _ λ q. load-b (reading (arrayElement k q)) _ e)))
   array-b false p v ts h e = failing-b 4 (just-rel Fine h no-b (λ l m a. name-rel Fine 7 v no-b (λ n. a .expr e then-b load-b end _ e)) .less)
 
@@ -116,7 +112,7 @@ module _ (S : Settings) where
   plain-b R.query p v ts h e = query-rel Fine v no-b (λ i m. flagged-b _ (query-b e i m p _ h))
   plain-b (R.compare o) p v ts h e = some-rel Fine h no-b λ l m a ls ms z. post-b p _ λ q. some-rel Fine z (a .expr e then-b withConst-b _ _ (λ k. put-b (plain (cmpConst o k q)) _)) λ l m b ls ms z. pushed-fine (a .expr e) (b .expr e then-b take-b (taking (cmp o q)) 1 _)
   plain-b (R.equal o) p v ts h e = some-rel Fine h no-b λ l m a ls ms z. post-b p _ λ q. some-rel Fine z (a .expr e then-b hash-rel Fine v (withConst-b _ _ (λ k. put-b (plain (eqConst o k q)) _)) (λ x. flagged-b _ (hash-b x _ (λ k. put-b (plain (eqHash o k q)) _)))) λ l m b ls ms z. pushed-fine (a .expr e) (b .expr e then-b take-b (taking (eq o q)) 1 _)
-  plain-b (R.logic j) p v ts h e = some-rel Fine h no-b λ l m a ls ms z. post-b p _ λ q. junction-b (stepOf j q) (lastOf j q) _ _ a z e
+  plain-b (R.logic j) p v ts h e = some-rel Fine h no-b λ l m a ls ms z. post-b p _ λ q. junction-b (cond j (andStep q) (orStep q)) (cond j (andLast q) (orLast q)) _ _ a z e
   plain-b R.coalesce p v ts h e = two-rel Fine h no-b λ l m a l′ m′ b. coalesce-b (a .expr (in-handler e)) (b .expr e) then-b postInstr-b (isIdentity p) p
   plain-b R.conditional p v ts h e = some-rel Fine h no-b λ l m a ls ms z. some-rel Fine z no-b λ l m b ls ms z. a .expr e then-b branch-b (b .expr e) (one-rel Fine z (constant-b 0) (λ l m c. c .expr e)) then-b postInstr-b (isIdentity p) p
   plain-b R.statements p v ts h e = statements-b _ h e
@@ -126,11 +122,11 @@ module _ (S : Settings) where
   plain-b R.continue p v ts h e = continue-b (e .loop)
   plain-b R.assign p v ts h e = some-rel Fine h no-b λ l m a ls ms z. target-b ts (one-rel Fine z (constant-b _) (λ l m b. b .expr e)) p _
   plain-b R.bracket p v ts h e = one-rel Fine h no-b λ l m a. a .expr e
-  plain-b (R.unary u) p v ts h e = one-rel Fine h no-b λ l m a. a .expr e then-b post-b p _ (λ q. put-b (plain (unaryOf u q)) _)
+  plain-b (R.unary u) p v ts h e = one-rel Fine h no-b λ l m a. a .expr e then-b post-b p _ (λ q. put-b (plain (cond u (negate q) (not q))) _)
   plain-b R.add p v ts h e = some-rel Fine h no-b λ l m a ls ms z. some-rel Fine z (a .expr e then-b postInstr-b (isIdentity p) p) λ l m b ls ms z. pushed-fine (a .expr e) (addition-b p _ b z e)
   plain-b R.mul p v ts h e = two-rel Fine h no-b λ l m a l′ m′ b. pushed-fine (a .expr e) (b .expr e then-b post-b p _ (λ q. take-b (taking (mul q)) 1 _))
   plain-b R.div p v ts h e = two-rel Fine h no-b λ l m a l′ m′ b. b .expr e then-b guarded-b (divGuard (S .absolute)) _ operand+ (operands- 1) (taken-all 1) (a .expr e then-b post-b p _ (λ q. take-b (taking (div q)) 1 _))
-  plain-b (R.hostMath u) p v ts {ls} {ms} h e = flagged-b _ (math-rel Fine v no-b λ f. some-rel Fine h no-b λ l m a ls′ ms′ z. rw (zip-length h) (fits-b (few (length ms)) (ext-bound (hosted-b f _ (length ms′) p _ a z e) same (taken-all (length ms′)))))
+  plain-b (R.hostMath u) p v ts {ls} {ms} h e = flagged-b _ (math-rel Fine v no-b λ f. some-rel Fine h no-b λ l m a ls′ ms′ z. rw (zip-length h) (fits-b (leb (length ms) 255) (ext-bound (hosted-b f _ (length ms′) p _ a z e) same (taken-all (length ms′)))))
   plain-b R.generic p v ts h e = constant-b _
   plain-b R.refused p v ts h e = no-b
 

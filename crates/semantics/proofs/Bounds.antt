@@ -1,5 +1,5 @@
 use mathlib.Core.Path.{_≡_, refl, ap, _∙_, subst}
-use mathlib.Core.Bool.{Bool, true, false}
+use mathlib.Core.Bool.{Bool, true, false, cond}
 use Prim.Native.Nat.{ℕ, zero, suc, _≤_, _+_}
 use native.Mathlib.Omega.{arith}
 use lib.ListN.{length}
@@ -8,10 +8,10 @@ use Rattle.numeric.specs.Post.{Post, isIdentity}
 use Rattle.program.specs.Instruction.{post, Instruction, plain}
 use Rattle.program.specs.Program.{Counts, MemberStore}
 use Rattle.semantics.specs.Demand3.{AtMost, Within}
-use Rattle.semantics.specs.Pieces.{Lowered, Lowering, flush, put, nothing, failing, putConst, _⨾_, pushed, flagged, withConst, withHash, withName, withTemp, withMember, withStore, post-if, withPost, constant, postInstruction-if}
+use Rattle.semantics.specs.Pieces.{Lowered, Lowering, flush, put, nothing, failing, putConst, _⨾_, pushed, flagged, withConst, withHash, withName, withTemp, withMember, withStore, post-if, withPost, constant}
 use Rattle.semantics.specs.Run.{Action, eConst, ePost, ePush, Run, note, operand+, operands-, same, opens, closes, count}
 use Rattle.semantics.specs.State.{MemberRead, Flags, State, max-counts, raise, first}
-use Rattle.semantics.specs.Walk.{Completion, normal, missing, broke, again, returned, halted, out, Walking, after, _then_, pass, logs, takes, pushes, posted-if}
+use Rattle.semantics.specs.Walk.{Completion, normal, missing, broke, again, returned, halted, out, Walking, after, _then_, pass, logs, takes, pushes}
 
 -- Every piece uses up outcomes only, and at no event of it is more open than the maxima it raised. Assumes nothing.
 
@@ -208,7 +208,6 @@ store-b v g h = record { less = h 0 .less; back = λ c b n s. h _ .back c b n _;
 pub constant-b : (v : ℕ) → Fine (constant v) (logs (eConst v))
 constant-b v = withConst-b v putConst (λ k. const-b k v)
 
-pub postInstr-b : (x : Bool) (p : Post) → Fine (postInstruction-if x p) (posted-if x p)
-unfolding postInstruction-if posted-if
+pub postInstr-b : (x : Bool) (p : Post) → Fine (cond x nothing (withPost p (λ q. put (plain (post q))))) (cond x pass (logs (ePost p)))
 postInstr-b true p = nothing-b
 postInstr-b false p = post-b p _ (λ q. put-b (plain (post q)) (ePost p))

@@ -1,25 +1,25 @@
 use mathlib.Core.Path.{_≡_, refl}
-use mathlib.Core.Bool.{Bool, true, false, cond}
+use mathlib.Core.Bool.{Bool, true, false, cond, _&&_}
 use mathlib.Core.List.{List, [], _∷_, _++_}
 use mathlib.Core.Option.{none}
 use Prim.Native.Nat.{ℕ, zero, suc, _≤_, _+_}
 use native.Mathlib.Omega.{arith}
 use native.Mathlib.Decide.{ℕ-discrete}
 use lib.ListN.{length}
+use lib.Dec.{leb}
 use Rattle.ast.specs.Tree.{Name, Payload, pNone, pFloat, pHash, pMath, pName, pQuery, Tree, node, Forest, nil, cons}
 use Rattle.numeric.specs.Post.{Post, isIdentity, fold}
-use Rattle.program.specs.Instruction.{Plain, hash, resource, this, pointerLeave, storeVar, storeTemp, storeMember, cmpConst, eqConst, eqHash, addAcc, addLast, mul, div, cmp, eq, hostMath, loadVar, loadTemp, loadCtx, arrayElement, member, Guard, divGuard, pointerEnter, jumpIfFalsy, EachNext, eachNextVar, eachNextTemp, plain, taking, reading, guard, end, jump, handlerPush, handlerPop, return, call}
+use Rattle.program.specs.Instruction.{Plain, hash, resource, this, negate, not, andLast, orLast, pointerLeave, storeVar, storeTemp, storeMember, cmpConst, eqConst, eqHash, addAcc, addLast, mul, div, cmp, eq, hostMath, loadVar, loadTemp, loadCtx, arrayElement, member, Guard, divGuard, andStep, orStep, pointerEnter, jumpIfFalsy, EachNext, eachNextVar, eachNextTemp, plain, taking, reading, guard, end, jump, handlerPush, handlerPop, return, call}
 use Rattle.program.specs.Program.{Counts, StoreRoot, rootVar, rootTemp, rootOther}
 use Rattle.semantics.proofs.Costs.{Weight, weigh, weigh-append}
 use Rattle.semantics.specs.Link.{offsetsOf, lowered}
-use Rattle.semantics.specs.Lowering.{query, arguments, pointed, returning, Lowerings, memberRead, withRoot, member-if, isMember, stores-if, targetRefusal, unless, stepOf, lastOf, equalConst, unaryOf, close-segment, fill, called, array-if, lowerPlain, lowerRule, lower, lowers}
+use Rattle.semantics.specs.Lowering.{query, arguments, pointed, returning, Lowerings, memberRead, withRoot, memberStore, isMember, targetRefusal, unless, equalConst, close-segment, fill, called, arrayElement-of, lowerPlain, lowerRule, lower, lowers}
 use Rattle.semantics.specs.Machine.{go}
-use Rattle.semantics.specs.Payloads.{link, asName, asHash, asMath, asQuery, constOf, one, two, three, some, just, Path, longer, path, paths}
+use Rattle.semantics.specs.Payloads.{link, cases, asName, asHash, asMath, asQuery, constOf, one, two, three, some, just, Path, longer, path, paths}
 use Rattle.semantics.specs.Pieces.{Lowered, Lowering, put, failing, _⨾_, pushed, withConst, withPost, constant, postInstruction, fork, eached}
 use Rattle.semantics.specs.Rule.{Rule, ruleAt, Settings}
 use Rattle.semantics.specs.Run.{nothing-open, operand+, handler+, same}
 use Rattle.semantics.specs.State.{instr, toCleanup, toCheck, CallInfo, set-calls, State, empty, set-pools}
-use Rattle.semantics.specs.Walk.{few}
 use Rattle.semantics.specs.Lowering as L
 use Rattle.semantics.specs.Rule as R
 use Rattle.semantics.proofs.Costs as C
@@ -60,7 +60,7 @@ module _ (w : Weight) where
   -- readings of a payload: the name read is paid for
   module _ {X : Type 0} (R : X → Type 0) where
     name-c : (k : ℕ) (v : Payload) {d : X} {f : Name → X} → R d → ((n : Name) → named ≤ pay v → R (f n)) → R (asName k v d f)
-    unfolding asName pay
+    unfolding asName pay cases
     name-c k pNone h i = h
     name-c k (pFloat v) h i = h
     name-c k (pHash v) h i = h
@@ -73,7 +73,7 @@ module _ (w : Weight) where
         go (no p) = h
 
     hash-c : (v : Payload) {d : X} {f : ℕ → X} → R d → ((n : ℕ) → R (f n)) → R (asHash v d f)
-    unfolding asHash
+    unfolding asHash cases
     hash-c pNone h i = h
     hash-c (pFloat v) h i = h
     hash-c (pHash v) h i = i v
@@ -82,7 +82,7 @@ module _ (w : Weight) where
     hash-c (pName j n) h i = h
 
     math-c : (v : Payload) {d : X} {f : ℕ → X} → R d → ((n : ℕ) → R (f n)) → R (asMath v d f)
-    unfolding asMath
+    unfolding asMath cases
     math-c pNone h i = h
     math-c (pFloat v) h i = h
     math-c (pHash v) h i = h
@@ -91,7 +91,7 @@ module _ (w : Weight) where
     math-c (pName j n) h i = h
 
     query-c : (v : Payload) {d : X} {f : ℕ → ℕ → X} → R d → ((j m : ℕ) → R (f j m)) → R (asQuery v d f)
-    unfolding asQuery
+    unfolding asQuery cases
     query-c pNone h i = h
     query-c (pFloat v) h i = h
     query-c (pHash v) h i = h
@@ -208,28 +208,28 @@ module _ (w : Weight) where
   unfolding withRoot
   root-c v g {k} h = name-c (λ f. Cost f (pay v + k)) 4 v (name-c (λ f. Cost f (pay v + k)) 5 v (C.weak w (h rootOther) (omega arith)) (λ n e. C.weak w (C.withTemp-c w n _ (λ t. h (rootTemp t))) (omega arith))) (λ n e. C.weak w (C.withName-c w n _ (λ t. h (rootVar t))) (omega arith))
 
-  member-if-c : (m : Path) (q : ℕ) → Cost (member-if (m .fine) m q) (pay (m .root) + (w .sa + w .sa + w .sm + weigh (w .pa) (m .hashes)) + w .i)
-  unfolding member-if
-  member-if-c m q = go (m .fine)
-    where
-      go : (x : Bool) → Cost (member-if x m q) (pay (m .root) + (w .sa + w .sa + w .sm + weigh (w .pa) (m .hashes)) + w .i)
-      go true = C.weak w (C.flagged-c w _ (root-c (m .root) _ (λ r. C.withStore-c w (record { root = r; path = m .hashes }) _ (λ k. C.put-c w (plain (storeMember k q)))))) (omega arith)
-      go false = C.failing-c w 7
+  member-store-c : (m : Path) (q : ℕ) → Cost (memberStore m q) (pay (m .root) + (w .sa + w .sa + w .sm + weigh (w .pa) (m .hashes)) + w .i)
+  unfolding memberStore
+  member-store-c m q = C.weak w (C.flagged-c w _ (root-c (m .root) _ (λ r. C.withStore-c w (record { root = r; path = m .hashes }) _ (λ k. C.put-c w (plain (storeMember k q)))))) (omega arith)
 
-  stores-if-c : (r : Rule) (v : Payload) (us : Forest) (q : ℕ) → Cost (stores-if (isMember r) (link r v (paths us)) q) (w .sa + w .sa + w .i + pay v + costs us)
-  unfolding stores-if isMember link member-if pay
-  stores-if-c R.return v us q = C.failing-c w 7
-  stores-if-c R.entity v us q = C.failing-c w 7
-  stores-if-c R.pointer v us q = C.failing-c w 7
-  stores-if-c (R.plain r) v us q = C.failing-c w 7
-  stores-if-c R.member v us q = name-c (λ (m : Path). Cost (member-if (m .fine) m q) (w .sa + w .sa + w .i + pay v + costs us)) 6 v (C.failing-c w 7)
-      (λ n e. let h = paths-pay us in let i = weigh-append (w .pa) (paths us .hashes) (n .hash ∷ []) in C.weak w (member-if-c (longer (n .hash) (paths us)) q) (omega arith))
+  either-c : (x : Bool) {f : Lowering} {k : ℕ} → Cost f k → Cost (cond x f (failing 7)) k
+  either-c true a = a
+  either-c false a = C.failing-c w 7
+
+  path-store-c : (r : Rule) (v : Payload) (us : Forest) (q : ℕ) → Cost (cond (isMember r && link r v (paths us) .fine) (memberStore (link r v (paths us)) q) (failing 7)) (w .sa + w .sa + w .i + pay v + costs us)
+  unfolding isMember link
+  path-store-c R.return v us q = C.failing-c w 7
+  path-store-c R.entity v us q = C.failing-c w 7
+  path-store-c R.pointer v us q = C.failing-c w 7
+  path-store-c (R.plain r) v us q = C.failing-c w 7
+  path-store-c R.member v us q = name-c (λ (m : Path). Cost (cond (m .fine) (memberStore m q) (failing 7)) (w .sa + w .sa + w .i + pay v + costs us)) 6 v (C.failing-c w 7)
+      (λ n e. let h = paths-pay us in let i = weigh-append (w .pa) (paths us .hashes) (n .hash ∷ []) in either-c (paths us .fine) (C.weak w (member-store-c (longer (n .hash) (paths us)) q) (omega arith)))
 
   stores-c : (r : Rule) (v : Payload) (us : Forest) (p : Post) → Cost (L.stores r v (link r v (paths us)) p) (w .po + (w .sa + w .sa + w .i + pay v + costs us))
   unfolding L.stores
   stores-c r v us p =
       let m = w .sa + w .sa + w .i + pay v + costs us in
-      C.post-c w p _ λ q. name-c (λ f. Cost f m) 4 v (name-c (λ f. Cost f m) 5 v (stores-if-c r v us q) (λ n e. C.weak w (C.withTemp-c w n _ (λ t. C.put-c w (plain (storeTemp t q)))) (omega arith))) (λ n e. C.weak w (C.withName-c w n _ (λ k. C.put-c w (plain (storeVar k q)))) (omega arith))
+      C.post-c w p _ λ q. name-c (λ f. Cost f m) 4 v (name-c (λ f. Cost f m) 5 v (path-store-c r v us q) (λ n e. C.weak w (C.withTemp-c w n _ (λ t. C.put-c w (plain (storeTemp t q)))) (omega arith))) (λ n e. C.weak w (C.withName-c w n _ (λ k. C.put-c w (plain (storeVar k q)))) (omega arith))
 
   unless-c : (r : ℕ) {f : Lowering} {k : ℕ} → Cost f k → Cost (unless r f) k
   unfolding unless
@@ -312,14 +312,14 @@ module _ (w : Weight) where
   host-c f k x p pnil l = C.failing-c w 7
   host-c f k x p (pcons a z) l = C.weak w (fits-c x (hosted-c f k p a z l)) (omega arith)
 
-  logic-c : (j : Bool) (p : Post) {xs : List Lowerings} {ts : Forest} → Pays xs ts → (l : Bool) → Cost (some xs (failing 7) λ a ys. withPost p λ q. L.junction (stepOf j q) (lastOf j q) a ys l) (own + costs ts)
+  logic-c : (j : Bool) (p : Post) {xs : List Lowerings} {ts : Forest} → Pays xs ts → (l : Bool) → Cost (some xs (failing 7) λ a ys. withPost p λ q. L.junction (cond j (andStep q) (orStep q)) (cond j (andLast q) (orLast q)) a ys l) (own + costs ts)
   unfolding cost
   logic-c j p pnil l = C.failing-c w 7
-  logic-c j p (pcons a z) l = C.weak w (C.post-c w p _ λ q. junction-c (stepOf j q) (lastOf j q) a z l) (omega arith)
+  logic-c j p (pcons a z) l = C.weak w (C.post-c w p _ λ q. junction-c (cond j (andStep q) (orStep q)) (cond j (andLast q) (orLast q)) a z l) (omega arith)
 
   module _ (S : Settings) where
-    array-c : (x : Bool) (p : Post) (v : Payload) {xs : List Lowerings} {ts : Forest} → Pays xs ts → (l : Bool) → Cost (array-if x p v xs l) (own + pay v + costs ts)
-    unfolding array-if
+    array-c : (x : Bool) (p : Post) (v : Payload) {xs : List Lowerings} {ts : Forest} → Pays xs ts → (l : Bool) → Cost (cond x (arrayElement-of p v xs l) (failing 5)) (own + pay v + costs ts)
+    unfolding arrayElement-of
     array-c true p v {ts = ts} h l = just-c h λ a t k e. name-c (λ f. Cost f (own + pay v + costs ts)) 7 v (C.failing-c w 7) (λ n i. C.flagged-c w _ (C.weak w (k .expr l then-c C.withName-c w n _ (λ k. C.post-c w p _ λ q. C.put-c w (reading (arrayElement k q)))) (omega arith)))
     array-c false p v h l = C.failing-c w 5
 
@@ -346,11 +346,11 @@ module _ (w : Weight) where
     plain-c R.continue p v ts h l = C.weak w (C.jumps-c w toCheck l) (omega arith)
     plain-c R.assign p v ts h l = C.weak w (assign-c p v h l) (omega arith)
     plain-c R.bracket p v ts h l = one-c (λ f. Cost f (own + pay v + costs ts)) h (C.failing-c w 7) (λ a t k e. C.weak w (k .expr l) (omega arith))
-    plain-c (R.unary u) p v ts h l = one-c (λ f. Cost f (own + pay v + costs ts)) h (C.failing-c w 7) (λ a t k e. C.weak w (k .expr l then-c C.post-c w p _ (λ q. C.put-c w (plain (unaryOf u q)))) (omega arith))
+    plain-c (R.unary u) p v ts h l = one-c (λ f. Cost f (own + pay v + costs ts)) h (C.failing-c w 7) (λ a t k e. C.weak w (k .expr l then-c C.post-c w p _ (λ q. C.put-c w (plain (cond u (negate q) (not q))))) (omega arith))
     plain-c R.add p v ts h l = C.weak w (add-c p h l) (omega arith)
     plain-c R.mul p v ts h l = two-c (λ f. Cost f (own + pay v + costs ts)) h (C.failing-c w 7) (λ a t j b u k e. C.weak w (C.pushed-c w (j .expr l) (k .expr l then-c C.post-c w p _ (λ q. C.put-c w (taking (mul q))))) (omega arith))
     plain-c R.div p v ts h l = two-c (λ f. Cost f (own + pay v + costs ts)) h (C.failing-c w 7) (λ a t j b u k e. C.weak w (k .expr l then-c C.guarded-c w (divGuard (S .absolute)) operand+ (j .expr l then-c C.post-c w p _ (λ q. C.put-c w (taking (div q))))) (omega arith))
-    plain-c (R.hostMath u) p v ts {xs} h l = C.flagged-c w _ (math-c (λ f. Cost f (own + pay v + costs ts)) v (C.failing-c w 7) (λ f. C.weak w (host-c f (length xs) (few (length xs)) p h l) (omega arith)))
+    plain-c (R.hostMath u) p v ts {xs} h l = C.flagged-c w _ (math-c (λ f. Cost f (own + pay v + costs ts)) v (C.failing-c w 7) (λ f. C.weak w (host-c f (length xs) (leb (length xs) 255) p h l) (omega arith)))
     plain-c R.generic p v ts h l = C.weak w (C.constant-c w _) (omega arith)
     plain-c R.refused p v ts h l = C.failing-c w 7
 

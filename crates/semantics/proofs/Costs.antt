@@ -1,5 +1,5 @@
 use mathlib.Core.Path.{_≡_, refl}
-use mathlib.Core.Bool.{Bool, true, false}
+use mathlib.Core.Bool.{Bool, true, false, cond}
 use mathlib.Core.List.{List, [], _∷_, _++_, map}
 use Prim.Native.Nat.{ℕ, zero, suc, _≤_, _+_}
 use native.Mathlib.Omega.{arith}
@@ -12,7 +12,7 @@ use Rattle.program.specs.Program.{Counts, MemberStore}
 use Rattle.semantics.specs.Link.{offsetsOf}
 use Rattle.semantics.specs.Lowering.{fill}
 use Rattle.semantics.specs.Machine.{go}
-use Rattle.semantics.specs.Pieces.{Lowered, Lowering, flush, put, nothing, failing, putConst, _⨾_, pushed, flagged, itself, withConst, withHash, hashKey, withName, withSlot, withTemp, readKey, withMember, withStore, postKey, post-if, withPost, constant, postInstruction-if, guarded, fork, aim, looped, eached}
+use Rattle.semantics.specs.Pieces.{Lowered, Lowering, flush, put, nothing, failing, putConst, _⨾_, pushed, flagged, itself, withConst, withHash, hashKey, withName, withSlot, withTemp, readKey, withMember, withStore, postKey, post-if, withPost, constant, guarded, fork, aim, looped, eached}
 use Rattle.semantics.specs.Positions.{past, slot, intern, pair-discrete}
 use Rattle.semantics.specs.Run.{operand+, opens}
 use Rattle.semantics.specs.State.{Item, instr, CallInfo, MemberRead, set-consts, set-posts, set-hashes, set-names, set-temps, set-members, set-stores, Flags, State, set-pools, raise}
@@ -222,8 +222,7 @@ module _ (w : Weight) where
   pub constant-c : (v : ℕ) → Cost (constant v) (w .co + w .i)
   constant-c v = withConst-c v putConst const-c
 
-  pub postInstr-c : (x : Bool) (p : Post) → Cost (postInstruction-if x p) (w .po + w .i)
-  unfolding postInstruction-if
+  pub postInstr-c : (x : Bool) (p : Post) → Cost (cond x nothing (withPost p (λ q. put (plain (post q))))) (w .po + w .i)
   postInstr-c true p = weak nothing-c (omega arith)
   postInstr-c false p = post-c p _ (λ q. put-c (plain (post q)))
 

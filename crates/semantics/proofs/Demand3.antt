@@ -1,5 +1,3 @@
--- Demand 3, whole: for every image that questions 2 to 8 accept and every list of outcomes, the step machine over the bytes of the
--- program image does what the walk over the tree does, within the declared depths. Assumes nothing.
 use Rattle.wire.specs.Bytes.{Bytes}
 use Rattle.ast.specs.Questions.{questions}
 use Rattle.semantics.specs.Demand3.{Demand3, Shows, Agrees, treeBehaviour, Within, AtMost}
@@ -16,13 +14,15 @@ use Rattle.semantics.proofs.AcceptedTrees.{parsed-fits, parsed-short}
 use Rattle.semantics.proofs.BoundedRules.{within}
 use Rattle.semantics.proofs.Fitting.{image-back}
 use Rattle.semantics.proofs.Linked.{correct}
-use Rattle.semantics.specs.Compiled.{settings, refusalOf, programImage}
 use Rattle.semantics.specs.Demand3.{treeBehaviour, Within, Agrees, Demand3}
-use Rattle.semantics.specs.Link.{lowered, link, program}
+use Rattle.semantics.specs.Link.{lowered, link, program, settings, refusalOf, programImage}
 use Rattle.semantics.specs.Machine.{follow, start}
 use Rattle.semantics.specs.Run.{Event, event, argument, same, result, behaviour}
 use Rattle.semantics.specs.State.{first}
 use Rattle.semantics.specs.Walk.{walked}
+
+-- Demand 3, whole: for every image that questions 2 to 8 accept and every list of outcomes, the step machine over the bytes of the
+-- program image does what the walk over the tree does, within the declared depths. Assumes nothing.
 
 -- no refusal: neither of questions 2 to 4 nor of the lowering
 first-none : (m n : ℕ) → first m n ≡ 0 → (m ≡ 0) × (n ≡ 0)

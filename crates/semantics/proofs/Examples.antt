@@ -8,7 +8,7 @@ use Rattle.program.specs.Image.{read}
 use Rattle.semantics.proofs.Opens.{computing}
 use Rattle.semantics.specs.Run.{Behaviour, behaviour}
 use Rattle.semantics.specs.Machine.{follow, start}
-use Rattle.semantics.specs.Compiled.{programImage}
+use Rattle.semantics.specs.Link.{programImage}
 use Rattle.semantics.specs.Demand3.{treeBehaviour}
 use Rattle.semantics.specs.Examples.{Example, examples}
 

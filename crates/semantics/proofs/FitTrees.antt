@@ -7,7 +7,7 @@ use Rattle.ast.specs.Tree.{Name, Payload, pNone, pFloat, pHash, pMath, pName, p
 use Rattle.program.specs.Fits.{Below, FitPost}
 use Rattle.semantics.proofs.Ranges.{FitText}
 use Rattle.semantics.specs.Machine.{go}
-use Rattle.semantics.specs.Payloads.{asName, asHash, asMath, asQuery, floatOf, constOf, stringOf, resourceOf}
+use Rattle.semantics.specs.Payloads.{cases, asName, asHash, asMath, asQuery, floatOf, constOf, stringOf, resourceOf}
 
 -- a tree's own fields fit
 abbrev pub PayloadFits : Payload → Type 0
@@ -29,7 +29,7 @@ unfoldable mutual
 -- what is read in a payload fits
 module _ {X : Type 0} (R : X → Type 0) where
   pub name-r : (k : ℕ) (v : Payload) → PayloadFits v → {d : X} {f : Name → X} → R d → ((n : Name) → FitText n → R (f n)) → R (asName k v d f)
-  unfolding asName
+  unfolding asName cases
   name-r k pNone q h i = h
   name-r k (pFloat v) q h i = h
   name-r k (pHash v) q h i = h
@@ -42,7 +42,7 @@ module _ {X : Type 0} (R : X → Type 0) where
       go (no p) = h
 
   pub hash-r : (v : Payload) → PayloadFits v → {d : X} {f : ℕ → X} → R d → ((n : ℕ) → Below 8 n → R (f n)) → R (asHash v d f)
-  unfolding asHash
+  unfolding asHash cases
   hash-r pNone q h i = h
   hash-r (pFloat v) q h i = h
   hash-r (pHash v) q h i = i v q
@@ -51,7 +51,7 @@ module _ {X : Type 0} (R : X → Type 0) where
   hash-r (pName j n) q h i = h
 
   pub math-r : (v : Payload) → PayloadFits v → {d : X} {f : ℕ → X} → R d → ((n : ℕ) → Below 2 n → R (f n)) → R (asMath v d f)
-  unfolding asMath
+  unfolding asMath cases
   math-r pNone q h i = h
   math-r (pFloat v) q h i = h
   math-r (pHash v) q h i = h
@@ -60,7 +60,7 @@ module _ {X : Type 0} (R : X → Type 0) where
   math-r (pName j n) q h i = h
 
   pub asked-r : (v : Payload) → PayloadFits v → {d : X} {f : ℕ → ℕ → X} → R d → ((j m : ℕ) → Below 2 j → Below 1 m → R (f j m)) → R (asQuery v d f)
-  unfolding asQuery
+  unfolding asQuery cases
   asked-r pNone q h i = h
   asked-r (pFloat v) q h i = h
   asked-r (pHash v) q h i = h
@@ -69,7 +69,7 @@ module _ {X : Type 0} (R : X → Type 0) where
   asked-r (pName j n) q h i = h
 
 pub float-fits : (v : Payload) → PayloadFits v → Below 4 (floatOf v)
-unfolding floatOf
+unfolding floatOf cases
 float-fits pNone h = omega arith
 float-fits (pFloat v) h = h
 float-fits (pHash v) h = omega arith

@@ -4,7 +4,7 @@ use Rattle.numeric.proofs.PostFits.{fold-fits-four}
 use mathlib.Core.Path.{_≡_, refl}
 use mathlib.Core.Bool.{Bool, true, false, cond, _&&_}
 use mathlib.Core.List.{List, [], _∷_}
-use Prim.Native.Nat.{ℕ, zero, suc, _≤_, _<_}
+use Prim.Native.Nat.{ℕ, zero, suc, _≤_, _<_, _+_}
 use native.Mathlib.Omega.{arith}
 use lib.ListN.{length, getD}
 use lib.Dec.{leb}
@@ -13,7 +13,8 @@ use Rattle.numeric.proofs.PostFits.{fold-fits-four}
 use Rattle.numeric.specs.Post.{Post, isIdentity}
 use Rattle.program.specs.Fits.{Below, Every, FitPost, rootIndex}
 use Rattle.program.specs.Image.{bit, wordOf}
-use Rattle.program.specs.Instruction.{post, hash, resource, this, pointerLeave, storeVar, storeTemp, storeMember, cmpConst, eqConst, eqHash, addAcc, addLast, mul, div, cmp, eq, hostMath, loadVar, loadTemp, loadCtx, arrayElement, member, divGuard, pointerEnter, jumpIfFalsy, EachNext, eachNextVar, eachNextTemp, plain, taking, reading, guard, jump, handlerPush, handlerPop, return, eachNext}
+use Rattle.program.specs.Instruction.{post, hash, resource, this, negate, not, andLast, orLast, pointerLeave, storeVar, storeTemp, storeMember, cmpConst, eqConst, eqHash, addAcc, addLast, mul, div, cmp, eq, hostMath, loadVar, loadTemp, loadCtx, arrayElement, member, divGuard, andStep, orStep, pointerEnter, jumpIfFalsy, EachNext, eachNextVar, eachNextTemp, plain, taking, reading, guard, jump, handlerPush, handlerPop, return, eachNext}
+use Rattle.program.specs.Kinds.{USES-RANDOM, USES-RANDOM-OP}
 use Rattle.program.specs.Program.{StoreRoot, rootVar, rootTemp, rootOther}
 use Rattle.semantics.proofs.CostedRules.{own}
 use Rattle.semantics.proofs.FitTrees.{PayloadFits, float-fits, const-fits, string-fits, resource-fits, TreeFits, ForestFits, name-r, hash-r, math-r, asked-r}
@@ -22,13 +23,12 @@ use Rattle.semantics.proofs.RangedJumps.{fits-jump, guarded-r, fork-r, 
 use Rattle.semantics.proofs.RangedPools.{free, withTemp-r, withStore-r, constant-r, withConst-r, withHash-r, withName-r, withMember-r, post-r}
 use Rattle.semantics.proofs.Ranges.{Fits, Aims, FitText, Under, Ranged, shift, Up, sets-fit, not-fit, queried-fit, every-append, _then-r_, pushed-r, nothing-r, failing-r, put-r, jumps-r, flagged-r}
 use Rattle.semantics.specs.Link.{relocate, settle}
-use Rattle.semantics.specs.Lowering.{statements, junction, addition, hosted, stores, target, eachOf, variable, loaded, chained, pointed, returning, Lowerings, memberRead, withRoot, member-if, isMember, stores-if, targetRefusal, unless, stepOf, lastOf, equalConst, unaryOf, volatileBits, isEmpty, array-if, lowerPlain, lowerRule, lower, lowers}
+use Rattle.semantics.specs.Lowering.{statements, junction, addition, hosted, stores, target, eachOf, variable, loaded, chained, pointed, returning, Lowerings, memberRead, withRoot, memberStore, isMember, targetRefusal, unless, equalConst, isEmpty, arrayElement-of, lowerPlain, lowerRule, lower, lowers}
 use Rattle.semantics.specs.Payloads.{link, constOf, one, two, three, some, just, Path, path, paths}
-use Rattle.semantics.specs.Pieces.{Lowering, failing, postInstruction-if}
+use Rattle.semantics.specs.Pieces.{Lowering, put, nothing, failing, withPost}
 use Rattle.semantics.specs.Rule.{Rule, rules, ruleAt, Settings}
 use Rattle.semantics.specs.Run.{operand+, handler+, same}
 use Rattle.semantics.specs.State.{instr, toCleanup, toCheck}
-use Rattle.semantics.specs.Walk.{few}
 use Rattle.semantics.specs.Rule as R
 
 -- Each rule's lowering fits; so does a whole tree's, if its own fields fit. Assumes nothing.
@@ -57,8 +57,8 @@ module _ {X : Type 0} (R : X → Type 0) where
   just-r (a ∷ b ∷ xs) z h i = h
 
 -- pieces that end in one instruction
-postInstruction-r : {is : List ℕ} (x : Bool) (p : Post) → FitPost p → Ranged is (postInstruction-if x p)
-unfolding postInstruction-if settle relocate wordOf
+postInstruction-r : {is : List ℕ} (x : Bool) (p : Post) → FitPost p → Ranged is (cond x nothing (withPost p (λ q. put (plain (post q)))))
+unfolding settle relocate wordOf
 postInstruction-r true p fp = nothing-r
 postInstruction-r false p fp = post-r p fp _ (λ q. put-r (plain (post q)) (λ u b h. omega (arith, u .0)))
 
@@ -104,19 +104,14 @@ root-r is v fv g h = name-r (Ranged is) 4 v fv (name-r (Ranged is) 5 v fv (h is 
     (λ n fn. withTemp-r n fn _ (λ t. h (t ∷ is) (rootTemp t) (λ u. omega (arith, u .0)) (λ u. u .1))))
     (λ n fn. withName-r n fn _ (λ t. h (t ∷ is) (rootVar t) (λ u. omega (arith, u .0)) (λ u. u .1)))
 
-member-if-r : (x : Bool) (m : Path) → PathFits m → (q : ℕ) → Ranged (q ∷ []) (member-if x m q)
-unfolding member-if settle relocate wordOf
-member-if-r true m fm q = flagged-r _ (λ f g. sets-fit 16 (omega arith) _ (not-fit f g)) (root-r (q ∷ []) (m .root) (fm .root) _ (λ js r fr e. withStore-r _ fr (fm .hashes) _ (λ i. put-r (plain (storeMember i q)) (λ u b h. let k = e (u .1) in omega (arith, u .0, k .0)))))
-member-if-r false m fm q = failing-r 7
-
-stores-if-r : (x : Bool) (m : Path) → PathFits m → (q : ℕ) → Ranged (q ∷ []) (stores-if x m q)
-unfolding stores-if
-stores-if-r true m fm q = member-if-r (m .fine) m fm q
-stores-if-r false m fm q = failing-r 7
+member-store-r : (x : Bool) (m : Path) → PathFits m → (q : ℕ) → Ranged (q ∷ []) (cond x (memberStore m q) (failing 7))
+unfolding memberStore settle relocate wordOf
+member-store-r true m fm q = flagged-r _ (λ f g. sets-fit 16 (omega arith) _ (not-fit f g)) (root-r (q ∷ []) (m .root) (fm .root) _ (λ js r fr e. withStore-r _ fr (fm .hashes) _ (λ i. put-r (plain (storeMember i q)) (λ u b h. let k = e (u .1) in omega (arith, u .0, k .0)))))
+member-store-r false m fm q = failing-r 7
 
 stores-r : (r : Rule) (v : Payload) → PayloadFits v → (m : Path) → PathFits m → (p : Post) → FitPost p → Ranged [] (stores r v m p)
 unfolding stores settle relocate wordOf
-stores-r r v fv m fm p fp = post-r p fp _ λ q. name-r (Ranged (q ∷ [])) 4 v fv (name-r (Ranged (q ∷ [])) 5 v fv (stores-if-r (isMember r) m fm q)
+stores-r r v fv m fm p fp = post-r p fp _ λ q. name-r (Ranged (q ∷ [])) 4 v fv (name-r (Ranged (q ∷ [])) 5 v fv (member-store-r (isMember r && m .fine) m fm q)
     (λ n fn. withTemp-r n fn _ (λ t. put-r (plain (storeTemp t q)) (λ u b h. omega (arith, u .0, u .1 .0)))))
     (λ n fn. withName-r n fn _ (λ t. put-r (plain (storeVar t q)) (λ u b h. omega (arith, u .0, u .1 .0))))
 
@@ -146,20 +141,20 @@ statements-r o fo (a ∷ xs) z l = z .0 .statement l then-r statements-r o fo xs
 up-same : Up same
 up-same = record { by = λ c. omega arith }
 
-steps : (j : Bool) (q : ℕ) → q ≤ 65535 → Aims (guard (stepOf j q))
-unfolding stepOf settle relocate wordOf
+steps : (j : Bool) (q : ℕ) → q ≤ 65535 → Aims (guard (cond j (andStep q) (orStep q)))
+unfolding settle relocate wordOf
 steps true q k t h b i = let e = shift b t in omega arith
 steps false q k t h b i = let e = shift b t in omega arith
 
-lasts : (j : Bool) (q : ℕ) → q ≤ 65535 → Fits (instr (plain (lastOf j q)))
-unfolding lastOf settle relocate wordOf
+lasts : (j : Bool) (q : ℕ) → q ≤ 65535 → Fits (instr (plain (cond j (andLast q) (orLast q))))
+unfolding settle relocate wordOf
 lasts true q k b i = omega arith
 lasts false q k b i = omega arith
 
-junction-r : (j : Bool) (q : ℕ) (a : Lowerings) → Ranges a → (xs : List Lowerings) → Every Ranges xs → (l : Bool) → Ranged (q ∷ []) (junction (stepOf j q) (lastOf j q) a xs l)
+junction-r : (j : Bool) (q : ℕ) (a : Lowerings) → Ranges a → (xs : List Lowerings) → Every Ranges xs → (l : Bool) → Ranged (q ∷ []) (junction (cond j (andStep q) (orStep q)) (cond j (andLast q) (orLast q)) a xs l)
 unfolding junction
-junction-r j q a fa [] z l = free (fa .expr l) then-r put-r (plain (lastOf j q)) (λ u. lasts j q (u .0))
-junction-r j q a fa (b ∷ xs) z l = free (fa .expr l) then-r guarded-r (stepOf j q) same up-same (λ u. steps j q (u .0)) (junction-r j q b (z .0) xs (z .1) l)
+junction-r j q a fa [] z l = free (fa .expr l) then-r put-r (plain (cond j (andLast q) (orLast q))) (λ u. lasts j q (u .0))
+junction-r j q a fa (b ∷ xs) z l = free (fa .expr l) then-r guarded-r (cond j (andStep q) (orStep q)) same up-same (λ u. steps j q (u .0)) (junction-r j q b (z .0) xs (z .1) l)
 
 addition-r : (p : Post) → FitPost p → (a : Lowerings) → Ranges a → (xs : List Lowerings) → Every Ranges xs → (l : Bool) → Ranged [] (addition p a xs l)
 unfolding addition settle relocate wordOf
@@ -171,18 +166,17 @@ unfolding hosted settle relocate wordOf
 hosted-r f k ff fk p fp a fa [] z l = fa .expr l then-r post-r p fp _ (λ q. put-r (taking (hostMath f k q)) (λ u b h. omega (arith, u .0)))
 hosted-r f k ff fk p fp a fa (b ∷ xs) z l = pushed-r (fa .expr l) (hosted-r f k ff fk p fp b (z .0) xs (z .1) l)
 
-few-r : (f n : ℕ) → Below 2 f → (p : Post) → FitPost p → (a : Lowerings) → Ranges a → (xs : List Lowerings) → Every Ranges xs → (l : Bool) → (x : Bool) → few n ≡ x → Ranged [] (cond x (hosted f n p a xs l) (failing 7))
-unfolding few
+few-r : (f n : ℕ) → Below 2 f → (p : Post) → FitPost p → (a : Lowerings) → Ranges a → (xs : List Lowerings) → Every Ranges xs → (l : Bool) → (x : Bool) → leb n 255 ≡ x → Ranged [] (cond x (hosted f n p a xs l) (failing 7))
 few-r f n ff p fp a fa xs z l true e = hosted-r f n ff (let h : n ≤ 255 = leb-true n 255 e in omega arith) p fp a fa xs z l
 few-r f n ff p fp a fa xs z l false e = failing-r 7
 
-array-r : (x : Bool) (p : Post) → FitPost p → (v : Payload) → PayloadFits v → (xs : List Lowerings) → Every Ranges xs → (l : Bool) → Ranged [] (array-if x p v xs l)
-unfolding array-if settle relocate wordOf
+array-r : (x : Bool) (p : Post) → FitPost p → (v : Payload) → PayloadFits v → (xs : List Lowerings) → Every Ranges xs → (l : Bool) → Ranged [] (cond x (arrayElement-of p v xs l) (failing 5))
+unfolding arrayElement-of settle relocate wordOf
 array-r true p fp v fv xs z l = just-r (Ranged []) xs z (failing-r 7) λ a fa. name-r (Ranged []) 7 v fv (failing-r 7) (λ n fn. flagged-r _ not-fit (fa .expr l then-r withName-r n fn _ (λ k. post-r p fp _ (λ q. put-r (reading (arrayElement k q)) (λ u b h. omega (arith, u .0, u .1 .0))))))
 array-r false p fp v fv xs z l = failing-r 5
 
-unary-r : (x : Bool) (q : ℕ) → q ≤ 65535 → Fits (instr (plain (unaryOf x q)))
-unfolding unaryOf settle relocate wordOf
+unary-r : (x : Bool) (q : ℕ) → q ≤ 65535 → Fits (instr (plain (cond x (negate q) (not q))))
+unfolding settle relocate wordOf
 unary-r true q h b i = omega arith
 unary-r false q h b i = omega arith
 
@@ -217,8 +211,7 @@ fits-waiting : Fits toCleanup × Fits toCheck
 unfolding settle wordOf
 fits-waiting = ((λ b h. omega arith), (λ b h. omega arith))
 
-volatile-fits : (u : Bool) → volatileBits u < 2048
-unfolding volatileBits
+volatile-fits : (u : Bool) → cond u (USES-RANDOM + USES-RANDOM-OP) 0 < 2048
 volatile-fits true = omega arith
 volatile-fits false = omega arith
 
@@ -310,11 +303,11 @@ module _ (S : Settings) where
   plain-r R.continue e p fp v fv ts ft xs z l = jumps-r toCheck (fits-waiting .1) l
   plain-r R.assign e p fp v fv ts ft xs z l = some-r (Ranged []) xs z (failing-r 7) λ a fa ys fs. target-r ts ft (one-r (Ranged []) ys fs (constant-r _ (const-fits v fv)) (λ b fb. fb .expr l)) p fp
   plain-r R.bracket e p fp v fv ts ft xs z l = one-r (Ranged []) xs z (failing-r 7) λ a fa. fa .expr l
-  plain-r (R.unary u) e p fp v fv ts ft xs z l = one-r (Ranged []) xs z (failing-r 7) λ a fa. fa .expr l then-r post-r p fp _ (λ q. put-r (plain (unaryOf u q)) (λ i. unary-r u q (i .0)))
+  plain-r (R.unary u) e p fp v fv ts ft xs z l = one-r (Ranged []) xs z (failing-r 7) λ a fa. fa .expr l then-r post-r p fp _ (λ q. put-r (plain (cond u (negate q) (not q))) (λ i. unary-r u q (i .0)))
   plain-r R.add e p fp v fv ts ft xs z l = some-r (Ranged []) xs z (failing-r 7) λ a fa ys fs. some-r (Ranged []) ys fs (fa .expr l then-r postInstruction-r (isIdentity p) p fp) λ b fb zs gs. pushed-r (fa .expr l) (addition-r p fp b fb zs gs l)
   plain-r R.mul e p fp v fv ts ft xs z l = two-r (Ranged []) xs z (failing-r 7) λ a fa b fb. pushed-r (fa .expr l) (fb .expr l then-r post-r p fp _ (λ q. put-r (taking (mul q)) (λ u b h. omega (arith, u .0))))
   plain-r R.div e p fp v fv ts ft xs z l = two-r (Ranged []) xs z (failing-r 7) λ a fa b fb. fb .expr l then-r guarded-r (divGuard (S .absolute)) operand+ up-operand (λ u. aims-divGuard (S .absolute)) (fa .expr l then-r post-r p fp _ (λ q. put-r (taking (div q)) (λ u b h. omega (arith, u .0))))
-  plain-r (R.hostMath u) e p fp v fv ts ft xs z l = flagged-r _ (sets-fit (volatileBits u) (volatile-fits u)) (math-r (Ranged []) v fv (failing-r 7) λ f ff. some-r (Ranged []) xs z (failing-r 7) λ a fa ys fs. few-r f (length xs) ff p fp a fa ys fs l (few (length xs)) refl)
+  plain-r (R.hostMath u) e p fp v fv ts ft xs z l = flagged-r _ (sets-fit (cond u (USES-RANDOM + USES-RANDOM-OP) 0) (volatile-fits u)) (math-r (Ranged []) v fv (failing-r 7) λ f ff. some-r (Ranged []) xs z (failing-r 7) λ a fa ys fs. few-r f (length xs) ff p fp a fa ys fs l (leb (length xs) 255) refl)
   plain-r R.generic e p fp v fv ts ft xs z l = constant-r _ (fold-fits-four p (constOf v) (const-fits v fv))
   plain-r R.refused e p fp v fv ts ft xs z l = failing-r 7
 

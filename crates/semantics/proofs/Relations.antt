@@ -5,11 +5,11 @@ use Prim.Native.Nat.{ℕ, suc}
 use lib.ListN.{length}
 use native.Mathlib.Decide.{ℕ-discrete}
 use Rattle.ast.specs.Tree.{Name, Payload, pNone, pFloat, pHash, pMath, pName, pQuery}
-use Rattle.semantics.specs.Payloads.{asName, asHash, asMath, asQuery, one, two, three, some, just}
+use Rattle.semantics.specs.Payloads.{cases, asName, asHash, asMath, asQuery, one, two, three, some, just}
 
 module _ {X Y : Type 0} (R : X → Y → Type 0) where
   pub name-rel : (k : ℕ) (v : Payload) {d : X} {f : Name → X} {x : Y} {g : Name → Y} → R d x → ((n : Name) → R (f n) (g n)) → R (asName k v d f) (asName k v x g)
-  unfolding asName
+  unfolding asName cases
   name-rel k pNone h i = h
   name-rel k (pFloat v) h i = h
   name-rel k (pHash v) h i = h
@@ -22,7 +22,7 @@ module _ {X Y : Type 0} (R : X → Y → Type 0) where
       go (no p) = h
 
   pub name-left : (k : ℕ) (v : Payload) {d : X} {f : Name → X} {x : Y} → R d x → ((n : Name) → R (f n) x) → R (asName k v d f) x
-  unfolding asName
+  unfolding asName cases
   name-left k pNone h i = h
   name-left k (pFloat v) h i = h
   name-left k (pHash v) h i = h
@@ -35,7 +35,7 @@ module _ {X Y : Type 0} (R : X → Y → Type 0) where
       go (no p) = h
 
   pub hash-rel : (v : Payload) {d : X} {f : ℕ → X} {x : Y} {g : ℕ → Y} → R d x → ((n : ℕ) → R (f n) (g n)) → R (asHash v d f) (asHash v x g)
-  unfolding asHash
+  unfolding asHash cases
   hash-rel pNone h i = h
   hash-rel (pFloat v) h i = h
   hash-rel (pHash v) h i = i v
@@ -44,7 +44,7 @@ module _ {X Y : Type 0} (R : X → Y → Type 0) where
   hash-rel (pName j n) h i = h
 
   pub math-rel : (v : Payload) {d : X} {f : ℕ → X} {x : Y} {g : ℕ → Y} → R d x → ((n : ℕ) → R (f n) (g n)) → R (asMath v d f) (asMath v x g)
-  unfolding asMath
+  unfolding asMath cases
   math-rel pNone h i = h
   math-rel (pFloat v) h i = h
   math-rel (pHash v) h i = h
@@ -53,7 +53,7 @@ module _ {X Y : Type 0} (R : X → Y → Type 0) where
   math-rel (pName j n) h i = h
 
   pub query-rel : (v : Payload) {d : X} {f : ℕ → ℕ → X} {x : Y} {g : ℕ → ℕ → Y} → R d x → ((j m : ℕ) → R (f j m) (g j m)) → R (asQuery v d f) (asQuery v x g)
-  unfolding asQuery
+  unfolding asQuery cases
   query-rel pNone h i = h
   query-rel (pFloat v) h i = h
   query-rel (pHash v) h i = h

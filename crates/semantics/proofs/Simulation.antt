@@ -13,11 +13,11 @@ use Rattle.semantics.proofs.Positions.{Holds, past-map, map-append, pas
 use Rattle.semantics.specs.Link.{relocate, settle}
 use Rattle.semantics.specs.Machine.{loop, plainAction, takingAction, taken, Open, handler, Frame, machine, Next, go, stop, missed, cut, leave, execute, step, follow}
 use Rattle.semantics.specs.Payloads.{some}
-use Rattle.semantics.specs.Pieces.{Lowered, Lowering, flush, put, nothing, failing, putConst, _⨾_, pushed, flagged, itself, withConst, withHash, hashKey, withName, withSlot, withTemp, readKey, withMember, withStore, postKey, post-if, withPost, constant, postInstruction-if}
+use Rattle.semantics.specs.Pieces.{Lowered, Lowering, flush, put, nothing, failing, putConst, _⨾_, pushed, flagged, itself, withConst, withHash, hashKey, withName, withSlot, withTemp, readKey, withMember, withStore, postKey, post-if, withPost, constant}
 use Rattle.semantics.specs.Positions.{_⊕_, past, intern, pair-discrete}
 use Rattle.semantics.specs.Run.{eConst, ePost, ePush, Run, note, operand+, count, byReturn, byHalt, byOut, Result, result}
 use Rattle.semantics.specs.State.{Item, CallInfo, MemberRead, Pools, set-consts, set-posts, set-hashes, set-names, set-temps, set-members, set-stores, Flags, State, set-pools, set-flags, raise, fail}
-use Rattle.semantics.specs.Walk.{Completion, normal, missing, broke, again, returned, halted, out, Walking, Scope, after, _then_, pass, logs, takes, pushes, shown, posted-if}
+use Rattle.semantics.specs.Walk.{Completion, normal, missing, broke, again, returned, halted, out, Walking, Scope, after, _then_, pass, logs, takes, pushes, shown}
 
 -- A piece of lowering and a piece of the walk on which the step machine agrees: the relation `Sim`, closed under every combinator.
 -- It is stated backwards: if the machine comes to r from wherever the completion leads, it comes to r from here. Assumes nothing.
@@ -326,7 +326,7 @@ module _ (P : Program) (E : ℕ) (r : Result) where
   pub constant-s : {e : Scope} (v : ℕ) → Sim e (constant v) (logs (eConst v))
   constant-s v = withConst-s v putConst (λ k. logs (eConst k)) const-s
 
-  pub postInstr-s : {e : Scope} (x : Bool) (p : Post) → isIdentity p ≡ x → Sim e (postInstruction-if x p) (posted-if x p)
-  unfolding postInstruction-if posted-if plainAction
+  pub postInstr-s : {e : Scope} (x : Bool) (p : Post) → isIdentity p ≡ x → Sim e (cond x nothing (withPost p (λ q. put (plain (post q))))) (cond x pass (logs (ePost p)))
+  unfolding plainAction
   postInstr-s true p h = nothing-s
   postInstr-s false p h = rw h (post-if-s false p _ (λ q. logs (ePost q)) (λ k. plain-s (Plain.post k)))

@@ -9,7 +9,7 @@ use Rattle.ast.specs.Encode.{image}
 use Rattle.program.specs.Program.{Program}
 use Rattle.program.specs.Image.{Word, word, wordOf, read}
 use Rattle.semantics.proofs.Opens.{computing}
-use Rattle.semantics.specs.Compiled.{programImage}
+use Rattle.semantics.specs.Link.{programImage}
 use Rattle.semantics.specs.BenchPieces.{this, query, conditional, assignment, leaf, pair, float}
 
 -- the instructions and the two pools that a slip would change

@@ -4,7 +4,7 @@ use mathlib.Core.List.{List, _++_}
 use Prim.Native.Nat.{ℕ, zero, suc}
 use lib.Dec.{leb}
 use lib.ListN.{length, drop, replicate}
-use Rattle.semantics.specs.Compiled.{refusalOf, programImage}
+use Rattle.semantics.specs.Link.{refusalOf, programImage}
 
 -- 01, Nine questions: "A refusal returns its number and length 0. Acceptance returns 0 and the length"
 pub record Answer : Type 0 where

@@ -11,7 +11,7 @@ use Rattle.program.specs.Image.{read}
 use Rattle.semantics.specs.Run.{Event, event, argument, Result, Behaviour, behaviour}
 use Rattle.semantics.specs.Walk.{walked}
 use Rattle.semantics.specs.Machine.{follow, start}
-use Rattle.semantics.specs.Compiled.{settings, refusalOf, programImage}
+use Rattle.semantics.specs.Link.{settings, refusalOf, programImage}
 
 -- what the walk over the tree of an image shows
 unfoldable pub treeBehaviour : List ℕ → List Bool → Behaviour
@@ -36,8 +36,7 @@ Within declared [] = Unit {0}
 Within declared (event a c ∷ log) = AtMost c declared × Within declared log
 Within declared (argument j ∷ log) = Within declared log
 
--- 01, Walk: "Their logs are one and the same list, counts included"; same ending, same number of outcomes used; and
--- "Declared are the closing fields stack (for operands), loops and handlers"
+-- 01, Walk: "Their logs are one and the same list, counts included"; same ending, same number of outcomes used; and "Declared are the closing fields stack (for operands), loops and handlers"
 pub record Agrees (tree card : List ℕ) (outcomes : List Bool) : Type 0 where
   pub runs : Shows card outcomes (treeBehaviour tree outcomes)
   pub bounded : Within (read card .depths) (treeBehaviour tree outcomes .log)

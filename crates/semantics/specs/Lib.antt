@@ -8,7 +8,6 @@ pub mod State
 pub mod Pieces
 pub mod Lowering
 pub mod Link
-pub mod Compiled
 pub mod Answer
 pub mod Demand3
 pub mod Regions

@@ -1,8 +1,9 @@
 -- The lowering: each rule, in the order of the Rust's files. "Order of interning is public" (01, Modules). Definitions only.
-use mathlib.Core.Bool.{Bool, true, false, cond}
+use mathlib.Core.Bool.{Bool, true, false, cond, _&&_}
 use mathlib.Core.List.{List, [], _∷_, _++_, map}
 use mathlib.Core.Option.{Option, some, none}
 use Prim.Native.Nat.{ℕ, zero, suc, _+_}
+use lib.Dec.{leb}
 use lib.ListN.{length}
 use Rattle.numeric.specs.Post.{Post, fold}
 use Rattle.ast.specs.Tree.{Name, Payload, Tree, node, Forest, nil, cons}
@@ -15,12 +16,10 @@ use Rattle.semantics.specs.Rule.{Rule, ruleAt, Settings}
 use Rattle.semantics.specs.Payloads as P
 use Rattle.semantics.specs.Payloads.{asName, asHash, asMath, asQuery, floatOf, constOf, stringOf, resourceOf, one, two, three, just, Path, path}
 use Rattle.semantics.specs.Run.{operand+, handler+, same}
-use Rattle.semantics.specs.Walk.{few}
 use Rattle.semantics.specs.State.{Item, instr, toCleanup, toCheck, CallInfo, MemberRead, set-calls, set-segments, sets, notFloatOnly, queried, State, set-pools}
 use Rattle.semantics.specs.Pieces.{Lowered, Lowering, put, failing, _⨾_, pushed, flagged, withConst, withHash, withName, withTemp, withMember, withStore, withPost, constant, postInstruction, guarded, fork, looped, eached, jumps}
 
--- what a tree is as an expression, as a statement of a list, and as the base of a member path whose last member is given;
--- the Boolean: a loop is open here
+-- a tree as an expression, as a statement of a list, and as the base of a member path with that last member; the Boolean: a loop is open here
 pub record Lowerings : Type 0 where
   pub expr : Bool → Lowering
   pub statement : Bool → Lowering
@@ -44,9 +43,8 @@ unfoldable pub withRoot : Payload → (StoreRoot → Lowering) → Lowering
 withRoot v f = asName 4 v (asName 5 v (f rootOther) (λ n. withTemp n λ t. f (rootTemp t))) (λ n. withName n λ k. f (rootVar k))
 
 -- a store to a member path; not float only, USES_MEMBERS
-unfoldable pub member-if : Bool → Path → ℕ → Lowering
-member-if true m q = flagged (λ f. sets USES-MEMBERS (notFloatOnly f)) (withRoot (m .root) λ r. withStore (record { root = r; path = m .hashes }) λ k. put (plain (storeMember k q)))
-member-if false m q = failing 7
+unfoldable pub memberStore : Path → ℕ → Lowering
+memberStore m q = flagged (λ f. sets USES-MEMBERS (notFloatOnly f)) (withRoot (m .root) λ r. withStore (record { root = r; path = m .hashes }) λ k. put (plain (storeMember k q)))
 
 unfoldable pub isMember : Rule → Bool
 isMember R.return = false
@@ -55,13 +53,9 @@ isMember R.entity = false
 isMember R.pointer = false
 isMember (R.plain r) = false
 
-unfoldable pub stores-if : Bool → Path → ℕ → Lowering
-stores-if true m q = member-if (m .fine) m q
-stores-if false m q = failing 7
-
 -- "Assignment: value, post, name"; 01, Slips: under MemberAccessor an Entity payload "is StoreVar"
 unfoldable pub stores : Rule → Payload → Path → Post → Lowering
-stores r v m p = withPost p λ q. asName 4 v (asName 5 v (stores-if (isMember r) m q) (λ n. withTemp n λ t. put (plain (storeTemp t q)))) (λ n. withName n λ k. put (plain (storeVar k q)))
+stores r v m p = withPost p λ q. asName 4 v (asName 5 v (cond (isMember r && m .fine) (memberStore m q) (failing 7)) (λ n. withTemp n λ t. put (plain (storeTemp t q)))) (λ n. withName n λ k. put (plain (storeVar k q)))
 
 -- the target's check before anything is lowered; 01, Nine questions, 8: "No assignment to a Pointer (WriteToOtherMob)? No: 8, in place of 7."
 unfoldable pub targetRefusal : Rule → Payload → ℕ
@@ -86,23 +80,11 @@ unfoldable pub junction : Guard → Plain → Lowerings → List Lowerings → B
 junction step last a [] l = a .expr l ⨾ put (plain last)
 junction step last a (b ∷ xs) l = a .expr l ⨾ guarded step same (junction step last b xs l)
 
-unfoldable pub stepOf : Bool → ℕ → Guard
-stepOf true p = andStep p
-stepOf false p = orStep p
-
-unfoldable pub lastOf : Bool → ℕ → Plain
-lastOf true p = andLast p
-lastOf false p = orLast p
-
 -- 01, Slips: "equality gives EqHash"; not float only
 unfoldable pub equalConst : ℕ → Payload → ℕ → Lowering
 equalConst o v q = asHash v (withConst (floatOf v) (λ k. put (plain (eqConst o k q)))) (λ h. flagged notFloatOnly (withHash h λ k. put (plain (eqHash o k q))))
 
 -- ---- arith
-
-unfoldable pub unaryOf : Bool → ℕ → Plain
-unaryOf true p = negate p
-unaryOf false p = not p
 
 unfoldable pub addition : Post → Lowerings → List Lowerings → Bool → Lowering
 addition p a [] l = a .expr l ⨾ withPost p (λ q. put (taking (addLast q)))
@@ -111,11 +93,6 @@ addition p a (b ∷ xs) l = a .expr l ⨾ put (plain addAcc) ⨾ addition p b xs
 unfoldable pub hosted : ℕ → ℕ → Post → Lowerings → List Lowerings → Bool → Lowering
 hosted f k p a [] l = a .expr l ⨾ withPost p (λ q. put (taking (hostMath f k q)))
 hosted f k p a (b ∷ xs) l = pushed (a .expr l) (hosted f k p b xs l)
-
--- USES_RANDOM and USES_RANDOM_OP under HostMathVolatile
-unfoldable pub volatileBits : Bool → ℕ
-volatileBits true = USES-RANDOM + USES-RANDOM-OP
-volatileBits false = 0
 
 -- ---- calls
 
@@ -181,14 +158,13 @@ variable (cons (node op q v us) ts) f = eachOf v f
 
 -- ---- every rule
 
--- "Array: index, name, post"; FromHost with one child, else 5 or 7
-unfoldable pub array-if : Bool → Post → Payload → List Lowerings → Bool → Lowering
-array-if true p v xs l = just xs (failing 7) λ a. asName 7 v (failing 7) λ n. flagged notFloatOnly (a .expr l ⨾ withName n (λ k. withPost p λ q. put (reading (arrayElement k q))))
-array-if false p v xs l = failing 5
+-- "Array: index, name, post"; exactly one child
+unfoldable pub arrayElement-of : Post → Payload → List Lowerings → Bool → Lowering
+arrayElement-of p v xs l = just xs (failing 7) λ a. asName 7 v (failing 7) λ n. flagged notFloatOnly (a .expr l ⨾ withName n (λ k. withPost p λ q. put (reading (arrayElement k q))))
 
 module _ (S : Settings) where
   unfoldable pub lowerPlain : R.Plain → Post → Payload → Forest → List Lowerings → Bool → Lowering
-  lowerPlain R.array p v ts xs l = array-if (S .fromHost) p v xs l
+  lowerPlain R.array p v ts xs l = cond (S .fromHost) (arrayElement-of p v xs l) (failing 5)
   lowerPlain R.usesArrays p v ts xs l = failing 5
   lowerPlain R.usesResources p v ts xs l = failing 6
   lowerPlain R.float p v ts xs l = constant (floatOf v)
@@ -199,7 +175,7 @@ module _ (S : Settings) where
   lowerPlain R.query p v ts xs l = asQuery v (failing 7) λ i m. flagged (queried (isEmpty xs)) (query i m p xs)
   lowerPlain (R.compare o) p v ts xs l = P.some xs (failing 7) λ a ys. withPost p λ q. P.some ys (a .expr l ⨾ withConst (constOf v) (λ k. put (plain (cmpConst o k q)))) λ b zs. pushed (a .expr l) (b .expr l ⨾ put (taking (cmp o q)))
   lowerPlain (R.equal o) p v ts xs l = P.some xs (failing 7) λ a ys. withPost p λ q. P.some ys (a .expr l ⨾ equalConst o v q) λ b zs. pushed (a .expr l) (b .expr l ⨾ put (taking (eq o q)))
-  lowerPlain (R.logic j) p v ts xs l = P.some xs (failing 7) λ a ys. withPost p λ q. junction (stepOf j q) (lastOf j q) a ys l
+  lowerPlain (R.logic j) p v ts xs l = P.some xs (failing 7) λ a ys. withPost p λ q. junction (cond j (andStep q) (orStep q)) (cond j (andLast q) (orLast q)) a ys l
   lowerPlain R.coalesce p v ts xs l = two xs (failing 7) λ a b. fork handlerPush handlerPop handler+ (a .expr l) (b .expr l) ⨾ postInstruction p
   lowerPlain R.conditional p v ts xs l = P.some xs (failing 7) λ a ys. P.some ys (failing 7) λ b zs. a .expr l ⨾ fork (guard jumpIfFalsy) jump same (b .expr l) (one zs (constant 0) λ c. c .expr l) ⨾ postInstruction p
   lowerPlain R.statements p v ts xs l = statements (p .offset) xs l
@@ -209,11 +185,11 @@ module _ (S : Settings) where
   lowerPlain R.continue p v ts xs l = jumps toCheck l
   lowerPlain R.assign p v ts xs l = P.some xs (failing 7) λ a ys. target ts (one ys (constant (constOf v)) λ b. b .expr l) p
   lowerPlain R.bracket p v ts xs l = one xs (failing 7) λ a. a .expr l
-  lowerPlain (R.unary u) p v ts xs l = one xs (failing 7) λ a. a .expr l ⨾ withPost p (λ q. put (plain (unaryOf u q)))
+  lowerPlain (R.unary u) p v ts xs l = one xs (failing 7) λ a. a .expr l ⨾ withPost p (λ q. put (plain (cond u (negate q) (not q))))
   lowerPlain R.add p v ts xs l = P.some xs (failing 7) λ a ys. P.some ys (a .expr l ⨾ postInstruction p) λ b zs. pushed (a .expr l) (addition p b zs l)
   lowerPlain R.mul p v ts xs l = two xs (failing 7) λ a b. pushed (a .expr l) (b .expr l ⨾ withPost p (λ q. put (taking (mul q))))
   lowerPlain R.div p v ts xs l = two xs (failing 7) λ a b. b .expr l ⨾ guarded (divGuard (S .absolute)) operand+ (a .expr l ⨾ withPost p (λ q. put (taking (div q))))
-  lowerPlain (R.hostMath u) p v ts xs l = flagged (sets (volatileBits u)) (asMath v (failing 7) λ f. P.some xs (failing 7) λ a ys. cond (few (length xs)) (hosted f (length xs) p a ys l) (failing 7))
+  lowerPlain (R.hostMath u) p v ts xs l = flagged (sets (cond u (USES-RANDOM + USES-RANDOM-OP) 0)) (asMath v (failing 7) λ f. P.some xs (failing 7) λ a ys. cond (leb (length xs) 255) (hosted f (length xs) p a ys l) (failing 7))
   lowerPlain R.generic p v ts xs l = constant (fold p (constOf v))
   lowerPlain R.refused p v ts xs l = failing 7
 

@@ -76,8 +76,7 @@ unfoldable pub eachAction : Program → EachNext → Action
 eachAction P (eachNextVar n) = eEachNextVar (nameAt P n)
 eachAction P (eachNextTemp t) = eEachNextTemp (nameAt P (slotAt P t))
 
--- what is open in a segment: a loop (with LoopBegin's operand or not) and the counts just after its start, a handler, its target and
--- the counts before its HandlerPush
+-- what is open in a segment: a loop (with LoopBegin's operand or not) and the counts just after its start, a handler, its target and the counts before its HandlerPush
 pub data Open : Type 0 where
   loop : Bool → Counts → Open
   handler : ℕ → Counts → Open

@@ -6,48 +6,32 @@ use native.Mathlib.Decide.{ℕ-discrete}
 use Rattle.ast.specs.Tree.{Name, Payload, pNone, pFloat, pHash, pMath, pName, pQuery, Tree, node, Forest, nil, cons}
 use Rattle.semantics.specs.Rule.{Rule, return, member, entity, pointer, plain, ruleAt}
 
+-- by the payload's constructor, in the order of Tree
+unfoldable pub cases : {X : Type 0} → Payload → X → (ℕ → X) → (ℕ → X) → (ℕ → X) → (ℕ → Name → X) → (ℕ → ℕ → X) → X
+cases pNone n f h m s q = n
+cases (pFloat v) n f h m s q = f v
+cases (pHash v) n f h m s q = h v
+cases (pMath v) n f h m s q = m v
+cases (pName k x) n f h m s q = s k x
+cases (pQuery i v) n f h m s q = q i v
+
 -- f of the payload if it is of that kind, else d
 module _ {X : Type 0} where
   unfoldable pub asName : ℕ → Payload → X → (Name → X) → X
-  asName k pNone d f = d
-  asName k (pFloat v) d f = d
-  asName k (pHash v) d f = d
-  asName k (pMath v) d f = d
-  asName k (pQuery i m) d f = d
-  asName k (pName j n) d f = elim (ℕ-discrete j k) [ yes p ↦ f n | no p ↦ d ]
+  asName k v d f = cases v d (λ x. d) (λ x. d) (λ x. d) (λ j n. elim (ℕ-discrete j k) [ yes p ↦ f n | no p ↦ d ]) (λ i m. d)
 
   unfoldable pub asHash : Payload → X → (ℕ → X) → X
-  asHash pNone d f = d
-  asHash (pFloat v) d f = d
-  asHash (pHash v) d f = f v
-  asHash (pMath v) d f = d
-  asHash (pQuery i m) d f = d
-  asHash (pName j n) d f = d
+  asHash v d f = cases v d (λ x. d) f (λ x. d) (λ j n. d) (λ i m. d)
 
   unfoldable pub asMath : Payload → X → (ℕ → X) → X
-  asMath pNone d f = d
-  asMath (pFloat v) d f = d
-  asMath (pHash v) d f = d
-  asMath (pMath v) d f = f v
-  asMath (pQuery i m) d f = d
-  asMath (pName j n) d f = d
+  asMath v d f = cases v d (λ x. d) (λ x. d) f (λ j n. d) (λ i m. d)
 
   unfoldable pub asQuery : Payload → X → (ℕ → ℕ → X) → X
-  asQuery pNone d f = d
-  asQuery (pFloat v) d f = d
-  asQuery (pHash v) d f = d
-  asQuery (pMath v) d f = d
-  asQuery (pQuery i m) d f = f i m
-  asQuery (pName j n) d f = d
+  asQuery v d f = cases v d (λ x. d) (λ x. d) (λ x. d) (λ j n. d) f
 
 -- 01, Nine questions, 7: "a float then reads 0.0"
 unfoldable pub floatOf : Payload → ℕ
-floatOf pNone = 0
-floatOf (pFloat v) = v
-floatOf (pHash v) = 0
-floatOf (pMath v) = 0
-floatOf (pQuery i m) = 0
-floatOf (pName j n) = 0
+floatOf v = cases v 0 (λ x. x) (λ x. 0) (λ x. 0) (λ j n. 0) (λ i m. 0)
 
 -- 01, Nine questions, 7: "a constant too unless it is a Hash"; 01, Slips: "plain constants do read those bits", the low 32
 unfoldable pub constOf : Payload → ℕ

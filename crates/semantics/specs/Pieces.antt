@@ -1,5 +1,5 @@
 -- Pieces of lowering and how they are put together: code, pools, jumps. Definitions only.
-use mathlib.Core.Bool.{Bool, true, false}
+use mathlib.Core.Bool.{Bool, true, false, cond}
 use mathlib.Core.List.{List, [], _∷_, _++_, map}
 use Prim.Native.Nat.{ℕ, zero, suc}
 use lib.ListN.{length}
@@ -62,8 +62,7 @@ pushed f g c b n s =
 abbrev pub flagged : (Flags → Flags) → Lowering → Lowering
 flagged m f c b n s = f c b n (set-flags (m (s .flags)) s)
 
--- 01, Modules, pools.rs: "consts by bits, posts by both bit patterns, names by hash (first text stays), members by (own, outermost)
--- hashes. Stores and calls are never merged."
+-- 01, Modules, pools.rs: "consts by bits, posts by both bit patterns, names by hash (first text stays), members by (own, outermost) hashes. Stores and calls are never merged."
 abbrev pub itself : ℕ → ℕ
 itself n = n
 
@@ -110,12 +109,8 @@ abbrev pub constant : ℕ → Lowering
 constant v = withConst v putConst
 
 -- a Post behind a branch, nothing for the identity
-unfoldable pub postInstruction-if : Bool → Post → Lowering
-postInstruction-if true v = nothing
-postInstruction-if false v = withPost v λ p. put (plain (post p))
-
 abbrev pub postInstruction : Post → Lowering
-postInstruction v = postInstruction-if (isIdentity v) v
+postInstruction v = cond (isIdentity v) nothing (withPost v λ p. put (plain (post p)))
 
 -- a guard whose target is what follows f
 abbrev pub guarded : Guard → (Counts → Counts) → Lowering → Lowering
@@ -153,5 +148,4 @@ eached i f c = flush λ n s.
 
 -- Break or Continue; 01, Walk: "With none open they log Halt."
 unfoldable pub jumps : Item → Bool → Lowering
-jumps i true c = flush λ n s. emit (i ∷ []) s
-jumps i false c = flush λ n s. emit (instr halt ∷ []) s
+jumps i open-here c = flush λ n s. emit (cond open-here i (instr halt) ∷ []) s

@@ -6,8 +6,7 @@ use lib.ListN.{length}
 use Rattle.numeric.specs.Post.{Post}
 use Rattle.program.specs.Program.{Counts, StoreRoot}
 
--- 01, Walk: "its name, sub, pool values in place of indices": an instruction with values; where it has a sub this comes first
--- (of HostMath the function, then argc), where it has a post this comes last
+-- 01, Walk: "its name, sub, pool values in place of indices": an instruction with values; where it has a sub this comes first (of HostMath the function, then argc), where it has a post this comes last
 pub data Action : Type 0 where
   eConst eHash eResource : ℕ → Action
   eThis eNegate eNot eAndLast eOrLast ePost ePointerLeave eReturn eAddLast eMul eDiv eAndStep eOrStep ePointerEnter : Post → Action
@@ -52,9 +51,6 @@ operand+ c = record { operands = suc (c .operands); loops = c .loops; handlers =
 abbrev pub operands- : ℕ → Counts → Counts
 operands- k c = record { operands = c .operands - k; loops = c .loops; handlers = c .handlers }
 
-abbrev pub loop+ : Counts → Counts
-loop+ c = record { operands = c .operands; loops = suc (c .loops); handlers = c .handlers }
-
 abbrev pub handler+ : Counts → Counts
 handler+ c = record { operands = c .operands; loops = c .loops; handlers = suc (c .handlers) }
 
@@ -66,8 +62,8 @@ same c = c
 
 -- 01, Walk: "LoopBegin going on add an operand", "LoopBegin and EachBegin going on open a loop"; true is LoopBegin's
 unfoldable pub opens : Bool → Counts → Counts
-opens true c = loop+ (operand+ c)
-opens false c = loop+ c
+opens true c = record { operands = suc (c .operands); loops = suc (c .loops); handlers = c .handlers }
+opens false c = record { operands = c .operands; loops = suc (c .loops); handlers = c .handlers }
 
 -- 01, Walk: "LoopEnd then closes it and drops LoopBegin's operand"
 unfoldable pub closes : Bool → Counts → Counts

@@ -65,11 +65,9 @@ halts w = halted (note eHalt w)
 abbrev pub returns : Post → Walking
 returns p w = returned (note (eReturn p) w)
 
--- 01, Walk: "A missing value breaks off the first child of the innermost `??` that holds it there in the same segment ..;
--- where no such `??` is, the walk goes on"
+-- 01, Walk: "A missing value breaks off the first child of the innermost `??` that holds it there in the same segment ..; where no such `??` is, the walk goes on"
 unfoldable pub misses : Bool → Walking
-misses true w = missing w
-misses false w = normal w
+misses held w = cond held (missing w) (normal w)
 
 abbrev pub perhaps : Scope → Walking
 perhaps e w = draw w out normal (misses (e .handler))
@@ -102,8 +100,7 @@ coalesce u v w = otherwise (w .counts) v (u (count handler+ w))
 abbrev pub ends : Bool → Counts → Walking
 ends k c w = normal (set-counts (closes k c) (note eLoopEnd (set-counts c w)))
 
--- what follows a body; 01, Walk: "Break leaves the innermost loop open in its segment, with LoopEnd, and Continue goes on with
--- that loop's LoopCheck or EachNext"
+-- what follows a body; 01, Walk: "Break leaves the innermost loop open in its segment, with LoopEnd, and Continue goes on with that loop's LoopCheck or EachNext"
 unfoldable pub round : Bool → Counts → Walking → Completion → Completion
 round k c next (normal w) = next w
 round k c next (missing w) = missing w
@@ -160,17 +157,12 @@ arguments j (a ∷ xs) rest = λ w. segment (w .counts) (arguments (suc j) xs re
 unfoldable pub shown : Post → Post
 shown p = cond (isIdentity p) identity p
 
-unfoldable pub posted-if : Bool → Post → Walking
-posted-if true p = pass
-posted-if false p = logs (ePost p)
-
 abbrev pub posted : Post → Walking
-posted p = posted-if (isIdentity p) p
+posted p = cond (isIdentity p) pass (logs (ePost p))
 
 -- 01, Walk: "With none open they log Halt."
 unfoldable pub jumps : Walking → Bool → Walking
-jumps to true = to
-jumps to false = halts
+jumps to open-here = cond open-here to halts
 
 unfoldable pub statements : ℕ → List Walkings → Scope → Walking
 statements o [] e = logs (eConst o)
@@ -180,14 +172,6 @@ unfoldable pub junction : Action → Action → Walkings → List Walkings → S
 junction step last a [] e = a .expr e then logs last
 junction step last a (b ∷ xs) e = a .expr e then guarded step same (junction step last b xs e)
 
-unfoldable pub stepAction : Bool → Post → Action
-stepAction true p = eAndStep p
-stepAction false p = eOrStep p
-
-unfoldable pub lastAction : Bool → Post → Action
-lastAction true p = eAndLast p
-lastAction false p = eOrLast p
-
 unfoldable pub addition : Post → Walkings → List Walkings → Scope → Walking
 addition p a [] e = a .expr e then takes 1 (eAddLast p)
 addition p a (b ∷ xs) e = a .expr e then logs eAddAcc then addition p b xs e
@@ -195,14 +179,6 @@ addition p a (b ∷ xs) e = a .expr e then logs eAddAcc then addition p b xs e
 unfoldable pub hosted : ℕ → Action → Walkings → List Walkings → Scope → Walking
 hosted k h a [] e = a .expr e then takes k h
 hosted k h a (b ∷ xs) e = a .expr e then pushes then hosted k h b xs e
-
--- 01, Bench pieces: "HostMath with 255 children passes, with 256 gives 7"
-unfoldable pub few : ℕ → Bool
-few n = leb n 255
-
-unfoldable pub unaryAction : Bool → Post → Action
-unaryAction true p = eNegate p
-unaryAction false p = eNot p
 
 -- 01, Walk: "a store its root's kind, its root's hash unless Other, and its path"
 unfoldable pub rootShown : Payload → StoreRoot
@@ -240,7 +216,7 @@ module _ (S : Settings) where
   walkPlain R.query p v ts xs e = asQuery v pass λ i m w. arguments 0 xs (perhaps e) (note (eCall i m (length xs) (shown p)) w)
   walkPlain (R.compare o) p v ts xs e = some xs pass λ a ys. some ys (a .expr e then logs (eCmpConst o (constOf v) (shown p))) λ b zs. a .expr e then pushes then b .expr e then takes 1 (eCmp o (shown p))
   walkPlain (R.equal o) p v ts xs e = some xs pass λ a ys. some ys (a .expr e then asHash v (logs (eEqConst o (floatOf v) (shown p))) (λ h. logs (eEqHash o h (shown p)))) λ b zs. a .expr e then pushes then b .expr e then takes 1 (eEq o (shown p))
-  walkPlain (R.logic j) p v ts xs e = some xs pass λ a ys. junction (stepAction j (shown p)) (lastAction j (shown p)) a ys e
+  walkPlain (R.logic j) p v ts xs e = some xs pass λ a ys. junction (cond j (eAndStep (shown p)) (eOrStep (shown p))) (cond j (eAndLast (shown p)) (eOrLast (shown p))) a ys e
   walkPlain R.coalesce p v ts xs e = two xs pass λ a b. coalesce (a .expr (in-handler e)) (b .expr e) then posted p
   walkPlain R.conditional p v ts xs e = some xs pass λ a ys. some ys pass λ b zs. a .expr e then branch (b .expr e) (one zs (logs (eConst 0)) λ c. c .expr e) then posted p
   walkPlain R.statements p v ts xs e = statements (p .offset) xs e
@@ -250,11 +226,11 @@ module _ (S : Settings) where
   walkPlain R.continue p v ts xs e = jumps again (e .loop)
   walkPlain R.assign p v ts xs e = some xs pass λ a ys. one ys (logs (eConst (constOf v))) (λ b. b .expr e) then target ts (shown p)
   walkPlain R.bracket p v ts xs e = one xs pass λ a. a .expr e
-  walkPlain (R.unary u) p v ts xs e = one xs pass λ a. a .expr e then logs (unaryAction u (shown p))
+  walkPlain (R.unary u) p v ts xs e = one xs pass λ a. a .expr e then logs (cond u (eNegate (shown p)) (eNot (shown p)))
   walkPlain R.add p v ts xs e = some xs pass λ a ys. some ys (a .expr e then posted p) λ b zs. a .expr e then pushes then addition (shown p) b zs e
   walkPlain R.mul p v ts xs e = two xs pass λ a b. a .expr e then pushes then b .expr e then takes 1 (eMul (shown p))
   walkPlain R.div p v ts xs e = two xs pass λ a b. b .expr e then guarded (eDivGuard (S .absolute)) operand+ (a .expr e then takes 1 (eDiv (shown p)))
-  walkPlain (R.hostMath u) p v ts xs e = asMath v pass λ f. some xs pass λ a ys. cond (few (length xs)) (hosted (length ys) (eHostMath f (length xs) (shown p)) a ys e) pass
+  walkPlain (R.hostMath u) p v ts xs e = asMath v pass λ f. some xs pass λ a ys. cond (leb (length xs) 255) (hosted (length ys) (eHostMath f (length xs) (shown p)) a ys e) pass
   walkPlain R.generic p v ts xs e = logs (eConst (fold p (constOf v)))
   walkPlain R.refused p v ts xs e = pass
 

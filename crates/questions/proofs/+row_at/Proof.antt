@@ -1,0 +1,103 @@
+use Prim.Native.Nat.{ℕ, _+_, _*_, _<_}
+use native.Mathlib.Omega.{arith}
+use mathlib.Core.Bool.{true, false}
+use mathlib.Core.Path.{_≡_, sym}
+use borrow.Author.Needs.{needs}
+use Rattle.ast.specs.Questions.{fits, filled}
+use Rattle.questions.proofs.Rows.{row-end, row-unfit, row-bad, row-on, no-level, next-level}
+use borrow.Fn.Kinds.{In}
+use borrow.Fn.PlainCycle.{Measures, is, falls, and}
+use Rattle.questions.proofs.row_at.Reads as row-at
+use Rattle.questions.proofs.row_at.Kinds as row-at-kinds
+use Rattle.questions.proofs.+row_at.Lts-row_at as row-at-lts
+use Rattle.questions.proofs.fits_at.Reads as fits-at-reads
+use Rattle.tree.proofs.count_at.Reads as count-at-reads
+use Rattle.tree.proofs.first_at.Reads as first-at-reads
+use Rattle.tree.proofs.next_at.Reads as next-at-reads
+use Rattle.questions.proofs.+row_at.{statement}
+use Rattle.questions.proofs.+row_at.Tie.{close}
+
+abbrev μ-row-at : Measures 1 row-at-kinds.ps ℕ
+μ-row-at κs a = a .1 .0 * 65536 + a .1 .1 .0
+
+abbrev row-at-at : ℕ → In 1 row-at-kinds.ps
+row-at-at t = and 1 row-at-kinds.ps (is 1 row-at-kinds.ps μ-row-at t) row-at.Pre
+
+abbrev row-at-below : ℕ → In 1 row-at-kinds.ps
+row-at-below t = and 1 row-at-kinds.ps (falls 1 row-at-kinds.ps _<_ μ-row-at t) row-at.Pre
+
+abbrev claims : ℕ → row-at-lts.Claims
+claims t = (fits-at-reads.Asked, fits-at-reads.Learnt, next-at-reads.Asked, next-at-reads.Learnt, count-at-reads.Asked, count-at-reads.Learnt, first-at-reads.Asked, first-at-reads.Learnt, row-at-below t, row-at.Post)
+
+row-at-returns : (t : ℕ) → row-at-lts.Need-returns (claims t) (row-at-at t) row-at.Post
+row-at-returns t c =
+    let a = c .before .before .args in
+    sym (row-end (filled (a .levels) (a .s .now)) (a .s .now) (a .n) (a .p) (a .end) (c .if1 .taken))
+
+row-at-fits-at-requires : (t : ℕ) → row-at-lts.Need-fits-at-requires (claims t) (row-at-at t) row-at.Post
+row-at-fits-at-requires t c κs = search needs
+
+row-at-returns-2 : (t : ℕ) → row-at-lts.Need-returns-2 (claims t) (row-at-at t) row-at.Post
+row-at-returns-2 t c =
+    let a = c .before .before .before .before .before .args in
+    let f : fits (a .s .now) (a .p) (a .end) ≡ true = cc in
+    sym (row-bad (filled (a .levels) (a .s .now)) (a .s .now) (a .n) (a .p) (a .end) (c .before .before .before .if1 .left) f (no-level (a .levels) (a .s .now) (a .p) (c .if3 .taken)))
+
+row-at-next-at-requires : (t : ℕ) → row-at-lts.Need-next-at-requires (claims t) (row-at-at t) row-at.Post
+row-at-next-at-requires t c κs = search needs
+
+row-at-sub-row-at : (t : ℕ) → row-at-lts.Need-sub-row-at (claims t) (row-at-at t) row-at.Post
+row-at-sub-row-at t c = omega arith
+
+row-at-count-at-requires : (t : ℕ) → row-at-lts.Need-count-at-requires (claims t) (row-at-at t) row-at.Post
+row-at-count-at-requires t c κs = search needs
+
+row-at-first-at-requires : (t : ℕ) → row-at-lts.Need-first-at-requires (claims t) (row-at-at t) row-at.Post
+row-at-first-at-requires t c κs = search needs
+
+row-at-row-at-requires : (t : ℕ) → row-at-lts.Need-row-at-requires (claims t) (row-at-at t) row-at.Post
+row-at-row-at-requires t c κs = (omega (arith, c .before .before .before .before .before .before .before .before .pre .0, c .before .count-at .ok), tt)
+
+row-at-sub-row-at-2 : (t : ℕ) → row-at-lts.Need-sub-row-at-2 (claims t) (row-at-at t) row-at.Post
+row-at-sub-row-at-2 t c = omega arith
+
+row-at-row-at-requires-2 : (t : ℕ) → row-at-lts.Need-row-at-requires-2 (claims t) (row-at-at t) row-at.Post
+row-at-row-at-requires-2 t c κs = (omega (arith, c .before .before .before .before .before .before .before .before .before .before .pre .0), tt)
+
+row-at-returns-3 : (t : ℕ) → row-at-lts.Need-returns-3 (claims t) (row-at-at t) row-at.Post
+row-at-returns-3 t c =
+    let a = c .before .before .before .before .before .before .before .before .before .before .before .args in
+    let f : fits (a .s .now) (a .p) (a .end) ≡ true = cc in
+    let i : filled (a .levels) (a .s .now) (a .p) ≡ true = cc (next-level (a .levels) (a .s .now) (a .p) (c .before .before .before .before .before .before .if3 .left)) in
+    row-on (filled (a .levels) (a .s .now)) (a .s .now) (a .n) (a .p) (a .end) (c .before .before .before .before .before .next-at .result) (c .row-at2 .result) (c .before .before .before .before .before .before .before .before .before .if1 .left) f i (c .before .before .before .before .before .next-at .ensures .0) (c .row-at2 .ensures)
+
+row-at-returns-4 : (t : ℕ) → row-at-lts.Need-returns-4 (claims t) (row-at-at t) row-at.Post
+row-at-returns-4 t c =
+    let a = c .before .before .before .before .before .before .before .before .before .before .args in
+    let f : fits (a .s .now) (a .p) (a .end) ≡ true = cc in
+    let i : filled (a .levels) (a .s .now) (a .p) ≡ false = cc (next-level (a .levels) (a .s .now) (a .p) (c .before .before .before .before .before .if3 .left)) in
+    sym (row-bad (filled (a .levels) (a .s .now)) (a .s .now) (a .n) (a .p) (a .end) (c .before .before .before .before .before .before .before .before .if1 .left) f i)
+
+row-at-returns-5 : (t : ℕ) → row-at-lts.Need-returns-5 (claims t) (row-at-at t) row-at.Post
+row-at-returns-5 t c =
+    let a = c .before .before .before .before .args in
+    let f : fits (a .s .now) (a .p) (a .end) ≡ false = cc in
+    sym (row-unfit (filled (a .levels) (a .s .now)) (a .s .now) (a .n) (a .p) (a .end) (c .before .before .if1 .left) f)
+
+pub +row-at-spec : {M : Type 1} → statement M
++row-at-spec = close μ-row-at λ t. row-at-lts.spec (claims t)
+    (row-at-at t)
+    row-at.Post
+    (row-at-returns t)
+    (row-at-fits-at-requires t)
+    (row-at-returns-2 t)
+    (row-at-next-at-requires t)
+    (row-at-sub-row-at t)
+    (row-at-count-at-requires t)
+    (row-at-first-at-requires t)
+    (row-at-row-at-requires t)
+    (row-at-sub-row-at-2 t)
+    (row-at-row-at-requires-2 t)
+    (row-at-returns-3 t)
+    (row-at-returns-4 t)
+    (row-at-returns-5 t)

@@ -1,0 +1,65 @@
+-- `fits`, `whole` and `formed` where the code tells their cases. Assumes nothing.
+use mathlib.Core.Path.{_≡_, sym, _∙_}
+use mathlib.Core.Bool.{true, false}
+use Prim.Native.Nat.{ℕ, _+_, _-_, _<_, _≤_}
+use mathlib.Core.List.{List}
+use native.Mathlib.Omega.{arith}
+use native.Mathlib.Decide.{decLe}
+use lib.Dec.{leb}
+use borrow.Author.Tests.{le-leb, lt-leb}
+use Rattle.wire.specs.Bytes.{be8}
+use Rattle.ast.specs.Rules.{known}
+use Rattle.ast.specs.Node.{lenAt, opAt, kindAt, sizeAt}
+use Rattle.ast.specs.Questions.{fits, whole, formed, shallow, rooted, questions}
+
+pub leb-sub : (p l e : ℕ) → p ≤ e → leb l (e - p) ≡ leb (p + l) e
+leb-sub p l e h = elim (decLe (p + l) e) [
+  | yes y ↦ le-leb l (e - p) (omega arith) ∙ sym (le-leb (p + l) e y)
+  | no n ↦ lt-leb l (e - p) (omega arith) ∙ sym (lt-leb (p + l) e (omega arith))
+]
+
+module _ (s : List ℕ) (p e : ℕ) where
+  pub unknown : known (opAt s p) ≡ false → false ≡ fits s p e
+  unfolding fits
+  unknown k = rw k
+
+  pub unkind : known (opAt s p) ≡ true → 12 < kindAt s p → false ≡ fits s p e
+  unfolding fits
+  unkind k h = rw (k, lt-leb _ _ h)
+
+  pub short : known (opAt s p) ≡ true → kindAt s p ≤ 12 → lenAt s p < 12 + sizeAt s p → false ≡ fits s p e
+  unfolding fits
+  short k h l = rw (k, le-leb _ _ h, lt-leb _ _ l)
+
+  pub ending : known (opAt s p) ≡ true → kindAt s p ≤ 12 → 12 + sizeAt s p ≤ lenAt s p → leb (p + (4 + lenAt s p)) e ≡ fits s p e
+  unfolding fits
+  ending k h l = rw (k, le-leb _ _ h, le-leb _ _ l)
+
+module _ (s : List ℕ) where
+  pub settings : be8 s 0 5 ≤ 1 → be8 s 0 6 ≤ 1 → rooted 383 s ≡ formed s
+  unfolding formed
+  settings h k = rw (le-leb _ _ h, le-leb _ _ k)
+
+  pub bad-arrays : 1 < be8 s 0 5 → false ≡ formed s
+  unfolding formed
+  bad-arrays h = rw (lt-leb _ _ h)
+
+  pub bad-divisor : be8 s 0 5 ≤ 1 → 1 < be8 s 0 6 → false ≡ formed s
+  unfolding formed
+  bad-divisor h k = rw (le-leb _ _ h, lt-leb _ _ k)
+
+  pub answer-2 : whole s ≡ false → 2 ≡ questions s
+  unfolding questions
+  answer-2 w = rw w
+
+  pub answer-3 : whole s ≡ true → formed s ≡ false → 3 ≡ questions s
+  unfolding questions
+  answer-3 w f = rw (w, f)
+
+  pub answer-4 : whole s ≡ true → formed s ≡ true → shallow s ≡ false → 4 ≡ questions s
+  unfolding questions
+  answer-4 w f h = rw (w, f, h)
+
+  pub answer-0 : whole s ≡ true → formed s ≡ true → shallow s ≡ true → 0 ≡ questions s
+  unfolding questions
+  answer-0 w f h = rw (w, f, h)

@@ -1,0 +1,98 @@
+use Prim.Native.Nat.{ℕ, _+_, _-_, _≤_}
+use Rattle.ast.specs.Node.{lenAt, opAt, kindAt, sizeAt}
+use Rattle.ast.specs.Rules.{known}
+use Rattle.questions.proofs.Cases.{leb-sub, unknown, unkind, short, ending}
+use borrow.Author.Tests.{lt-leb}
+use lib.Dec.{leb}
+use mathlib.Core.Bool.{true, false}
+use mathlib.Core.List.{List}
+use mathlib.Core.Path.{_≡_, sym, ap, _∙_}
+use native.Mathlib.Omega.{arith}
+use borrow.Author.Needs.{needs}
+use Rattle.questions.proofs.fits_at.Statement.{statement}
+use Rattle.questions.proofs.fits_at.Tie as tie
+
+op-at-requires : tie.Need-op-at-requires
+op-at-requires c κs = search needs
+
+is-known-requires : tie.Need-is-known-requires
+is-known-requires c κs = search needs
+
+kind-at-requires : tie.Need-kind-at-requires
+kind-at-requires c κs = search needs
+
+length-at-requires : tie.Need-length-at-requires
+length-at-requires c κs = search needs
+
+cast-len : tie.Need-cast-len
+cast-len c = search needs
+
+size-at-requires : tie.Need-size-at-requires
+size-at-requires c κs = search needs
+
+cast-own : tie.Need-cast-own
+cast-own c = search needs
+
+add-own : tie.Need-add-own
+add-own c = search needs
+
+add-result : tie.Need-add-result
+add-result c = search needs
+
+returns : tie.Need-returns
+returns c =
+    let a = c .before .before .before .before .before .before .before .before .before .before .args in
+    let s : List ℕ = a .s .now in
+    let k : known (opAt s (a .p)) ≡ true = cc in
+    let d : kindAt s (a .p) ≤ 12 = omega arith in
+    let o : 12 + sizeAt s (a .p) ≤ lenAt s (a .p) = omega arith in
+    ap (λ (l : ℕ). leb (4 + l) (a .end - a .p)) (c .before .before .before .length-at .ensures) ∙ leb-sub (a .p) (4 + lenAt s (a .p)) (a .end) (omega arith) ∙ ending s (a .p) (a .end) k d o
+
+returns-2 : tie.Need-returns-2
+returns-2 c =
+    let a = c .before .before .before .before .before .before .before .before .before .before .args in
+    let s : List ℕ = a .s .now in
+    let k : known (opAt s (a .p)) ≡ true = cc in
+    let d : kindAt s (a .p) ≤ 12 = omega arith in
+    let o : 12 + sizeAt s (a .p) ≤ lenAt s (a .p) = omega arith in
+    lt-leb (a .p) (a .end) (omega arith) ∙ sym (lt-leb (a .p + (4 + lenAt s (a .p))) (a .end) (omega arith)) ∙ ending s (a .p) (a .end) k d o
+
+returns-3 : tie.Need-returns-3
+returns-3 c =
+    let a = c .before .before .before .before .before .before .before .before .before .args in
+    let s : List ℕ = a .s .now in
+    let k : known (opAt s (a .p)) ≡ true = cc in
+    short s (a .p) (a .end) k (omega arith) (omega arith)
+
+returns-4 : tie.Need-returns-4
+returns-4 c =
+    let a = c .before .before .before .before .before .before .args in
+    let s : List ℕ = a .s .now in
+    let k : known (opAt s (a .p)) ≡ true = cc in
+    unkind s (a .p) (a .end) k (omega arith)
+
+returns-5 : tie.Need-returns-5
+returns-5 c =
+    let a = c .before .before .before .before .args in
+    let s : List ℕ = a .s .now in
+    let k : known (opAt s (a .p)) ≡ false = cc in
+    unknown s (a .p) (a .end) k
+
+pub fits-at-spec : {M : Type 1} → statement M
+fits-at-spec =
+    tie.close
+    (tie.spec
+    op-at-requires
+    is-known-requires
+    kind-at-requires
+    length-at-requires
+    cast-len
+    size-at-requires
+    cast-own
+    add-own
+    add-result
+    returns
+    returns-2
+    returns-3
+    returns-4
+    returns-5)

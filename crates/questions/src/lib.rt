@@ -1,0 +1,92 @@
+// Questions 2 to 4 on a tree image.
+ghost use mathlib.Core.Path.{_≡_};
+ghost use Rattle.ast.specs.Questions.{fits, row, filled, whole, formed, questions};
+
+// The node at `p` is known, holds its own fields, and ends at `end` or before.
+fn fits_at(s: &[u8], p: usize, end: usize) -> bool
+    ensures { λ r. ⌜ r ≡ fits (now (s .entry)) p end ⌝ }
+{
+    let op = tree::op_at(s, p);
+    if ast::is_known(op) {
+        if tree::kind_at(s, p) <= 12 {
+            let len = tree::length_at(s, p) as usize;
+            let own = 12 + (tree::size_at(s, p) as usize);
+            if own <= len {
+                return p <= end && 4 + len <= end - p;
+            }
+            return false;
+        }
+        return false;
+    }
+    false
+}
+
+// From `p` on `n` nodes stand one behind the other up to `end`, each right inside to so many levels.
+fn row_at(s: &[u8], levels: u16, n: u16, p: usize, end: usize) -> bool
+    ensures { λ r. ⌜ r ≡ row (filled levels (now (s .entry))) (now (s .entry)) n p end ⌝ }
+{
+    if n == 0 {
+        return p == end;
+    }
+    if fits_at(s, p, end) {
+        if levels == 0 {
+            return false;
+        }
+        let next = tree::next_at(s, p);
+        if row_at(
+            s,
+            levels - 1,
+            tree::count_at(s, p),
+            tree::first_at(s, p),
+            next,
+        ) {
+            return row_at(s, levels, n - 1, next, end);
+        }
+        return false;
+    }
+    false
+}
+
+fn whole_at(s: &[u8]) -> bool
+    ensures { λ r. ⌜ r ≡ whole (now (s .entry)) ⌝ }
+{
+    if 5 <= s.len() {
+        if s.len() <= 6144 {
+            if wire::get_u8(s, 0, 0) == 1 {
+                return 5 + (wire::get_u32(s, 0, 1) as usize) == s.len();
+            }
+            return false;
+        }
+        return false;
+    }
+    false
+}
+
+// No image has more than 383 levels, since a node takes 16 bytes or more.
+fn formed_at(s: &[u8]) -> bool
+    ensures { λ r. ⌜ r ≡ formed (now (s .entry)) ⌝ }
+{
+    if wire::get_u8(s, 0, 5) <= 1 {
+        if wire::get_u8(s, 0, 6) <= 1 {
+            return row_at(s, 383, 1, 7, s.len());
+        }
+        return false;
+    }
+    false
+}
+
+// The number of the first of questions 2 to 4 that is answered by no, else 0.
+pub fn check_image(tree: &[u8]) -> u8
+    ensures { λ r. ⌜ r ≡ questions (now (tree .entry)) ⌝ }
+{
+    if whole_at(tree) {
+        if formed_at(tree) {
+            if row_at(tree, 64, 1, 7, tree.len()) {
+                return 0;
+            }
+            return 4;
+        }
+        return 3;
+    }
+    2
+}

@@ -1,0 +1,169 @@
+// The fields of the node that begins at a place of a tree image. Past the end every byte reads 0, and no place lies past the end.
+ghost use mathlib.Core.Path.{_≡_};
+ghost use Prim.Native.Nat.{_<_, _≤_, min};
+ghost use lib.ListN.{length};
+ghost use Rattle.wire.specs.Bytes.{reach};
+ghost use Rattle.ast.specs.Node.{lenAt, opAt, scaleAt, offsetAt, kindAt, sizeOf, sizeAt, countAt, firstAt, nextAt};
+ghost use Rattle.tree.specs.Payloads.{nameRefAt, payloadRefAt};
+
+// A name: its hash, and where its text lies in the image.
+pub struct NameRef {
+    pub hash: u64,
+    pub at: usize,
+    pub len: usize,
+}
+
+pub struct QueryRef {
+    pub index: u16,
+    pub impl_idx: u8,
+}
+
+pub enum Payload {
+    None,
+    Float(u32),
+    Hash(u64),
+    Context(NameRef),
+    Entity(NameRef),
+    Temp(NameRef),
+    Member(NameRef),
+    ArrayVariable(NameRef),
+    Geometry(NameRef),
+    Material(NameRef),
+    Texture(NameRef),
+    Query(QueryRef),
+    HostMath(u16),
+}
+
+// The length of the node's rest.
+pub fn length_at(s: &[u8], p: usize) -> u32
+    ensures { λ r. ⌜ r ≡ lenAt (now (s .entry)) p ⌝ }
+{
+    wire::get_u32(s, p, 0)
+}
+
+// The operator code.
+pub fn op_at(s: &[u8], p: usize) -> u8
+    ensures { λ r. ⌜ r ≡ opAt (now (s .entry)) p ⌝ }
+{
+    wire::get_u8(s, p, 4)
+}
+
+// The bits of the post's scale.
+pub fn scale_at(s: &[u8], p: usize) -> u32
+    ensures { λ r. ⌜ r ≡ scaleAt (now (s .entry)) p ⌝ }
+{
+    wire::get_u32(s, p, 5)
+}
+
+// The bits of the post's offset.
+pub fn offset_at(s: &[u8], p: usize) -> u32
+    ensures { λ r. ⌜ r ≡ offsetAt (now (s .entry)) p ⌝ }
+{
+    wire::get_u32(s, p, 9)
+}
+
+// The payload's kind.
+pub fn kind_at(s: &[u8], p: usize) -> u8
+    ensures { λ r. ⌜ r ≡ kindAt (now (s .entry)) p ⌝ }
+{
+    wire::get_u8(s, p, 13)
+}
+
+fn place(s: &[u8], p: usize, k: usize) -> usize
+    ensures { λ r. ⌜ (r ≡ reach (now (s .entry)) p k) × (r ≤ length (now (s .entry))) ⌝ }
+{
+    if s.len() <= p {
+        return s.len();
+    }
+    if k <= s.len() - p { p + k } else { s.len() }
+}
+
+fn least(a: usize, b: usize) -> usize
+    ensures { λ r. ⌜ r ≡ min a b ⌝ }
+{
+    if a <= b { a } else { b }
+}
+
+fn wide(b: u8) -> usize
+    ensures { λ r. ⌜ r ≡ b ⌝ }
+{
+    b as usize
+}
+
+fn name_at(s: &[u8], p: usize) -> NameRef
+    ensures { λ r. ⌜ r ≡ nameRefAt (now (s .entry)) p ⌝ }
+{
+    let hash = wire::get_u64(s, p, 14);
+    let at = place(s, p, 23);
+    let len = least(wide(wire::get_u8(s, p, 22)), s.len() - at);
+    NameRef { hash, at, len }
+}
+
+// The payload; None where the kind is unknown.
+pub fn payload_at(s: &[u8], p: usize) -> Payload
+    ensures { λ r. ⌜ r ≡ payloadRefAt (now (s .entry)) p ⌝ }
+{
+    match kind_at(s, p) {
+        0 => Payload::None,
+        1 => Payload::Float(wire::get_u32(s, p, 14)),
+        2 => Payload::Hash(wire::get_u64(s, p, 14)),
+        3 => Payload::Context(name_at(s, p)),
+        4 => Payload::Entity(name_at(s, p)),
+        5 => Payload::Temp(name_at(s, p)),
+        6 => Payload::Member(name_at(s, p)),
+        7 => Payload::ArrayVariable(name_at(s, p)),
+        8 => Payload::Geometry(name_at(s, p)),
+        9 => Payload::Material(name_at(s, p)),
+        10 => Payload::Texture(name_at(s, p)),
+        11 => {
+            let q = QueryRef {
+                index: wire::get_u16(s, p, 14),
+                impl_idx: wire::get_u8(s, p, 16),
+            };
+            Payload::Query(q)
+        }
+        12 => Payload::HostMath(wire::get_u16(s, p, 14)),
+        _ => Payload::None,
+    }
+}
+
+fn size_of(kind: u8, text: u8) -> u16
+    ensures { λ r. ⌜ (r ≡ sizeOf kind text) × (r < 265) ⌝ }
+{
+    match kind {
+        1 => 4,
+        2 => 8,
+        3..=10 => 9 + (text as u16),
+        11 => 3,
+        12 => 2,
+        _ => 0,
+    }
+}
+
+// The bytes that the payload takes.
+pub fn size_at(s: &[u8], p: usize) -> u16
+    ensures { λ r. ⌜ (r ≡ sizeAt (now (s .entry)) p) × (r < 265) ⌝ }
+{
+    size_of(kind_at(s, p), wire::get_u8(s, p, 22))
+}
+
+// How many children the node has.
+pub fn count_at(s: &[u8], p: usize) -> u16
+    ensures { λ r. ⌜ r ≡ countAt (now (s .entry)) p ⌝ }
+{
+    wire::get_u16(s, p, 14 + size_at(s, p))
+}
+
+// Where the first child begins.
+pub fn first_at(s: &[u8], p: usize) -> usize
+    ensures { λ r. ⌜ (r ≡ firstAt (now (s .entry)) p) × (r ≤ length (now (s .entry))) ⌝ }
+{
+    place(s, p, 16 + (size_at(s, p) as usize))
+}
+
+// Where what follows the node begins.
+pub fn next_at(s: &[u8], p: usize) -> usize
+    ensures { λ r. ⌜ (r ≡ nextAt (now (s .entry)) p) × (r ≤ length (now (s .entry))) ⌝ }
+{
+    place(s, p, 4 + (length_at(s, p) as usize))
+}
