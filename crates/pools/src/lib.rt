@@ -61,7 +61,7 @@ fn member_hit(ws: &[u32], from: u16, a: u32, b: u32, c: u32, d: u32, i: u16) -> 
 }
 
 // The number of the first of `n` entries of one word that is `a`, or `n`.
-pub fn find_word(ws: &[u32], from: u16, n: u16, a: u32) -> u16
+fn find_word(ws: &[u32], from: u16, n: u16, a: u32) -> u16
     ensures { λ r. ⌜ r ≡ seek (wordHit (now (ws .entry)) from a) n 0 ⌝ }
 {
     let mut i: u16 = 0;
@@ -75,7 +75,7 @@ pub fn find_word(ws: &[u32], from: u16, n: u16, a: u32) -> u16
 }
 
 // The same for entries of two words.
-pub fn find_pair(ws: &[u32], from: u16, n: u16, a: u32, b: u32) -> u16
+fn find_pair(ws: &[u32], from: u16, n: u16, a: u32, b: u32) -> u16
     ensures { λ r. ⌜ r ≡ seek (pairHit (now (ws .entry)) from a b) n 0 ⌝ }
 {
     let mut i: u16 = 0;
@@ -89,7 +89,7 @@ pub fn find_pair(ws: &[u32], from: u16, n: u16, a: u32, b: u32) -> u16
 }
 
 // The same for names: three words, of which the hash is the key.
-pub fn find_name(ws: &[u32], from: u16, n: u16, a: u32, b: u32) -> u16
+fn find_name(ws: &[u32], from: u16, n: u16, a: u32, b: u32) -> u16
     ensures { λ r. ⌜ r ≡ seek (nameHit (now (ws .entry)) from a b) n 0 ⌝ }
 {
     let mut i: u16 = 0;
@@ -103,7 +103,7 @@ pub fn find_name(ws: &[u32], from: u16, n: u16, a: u32, b: u32) -> u16
 }
 
 // The same for members: six words, of which the two hashes are the key.
-pub fn find_member(ws: &[u32], from: u16, n: u16, a: u32, b: u32, c: u32, d: u32) -> u16
+fn find_member(ws: &[u32], from: u16, n: u16, a: u32, b: u32, c: u32, d: u32) -> u16
     ensures { λ r. ⌜ r ≡ seek (memberHit (now (ws .entry)) from a b c d) n 0 ⌝ }
 {
     let mut i: u16 = 0;
