@@ -1,0 +1,31 @@
+use mathlib.Core.Path.{_≡_, refl, sym, ap, _∙_}
+use Rattle.builder.specs.Fields.{set-consts, set-hashes, set-names, set-temps, set-members}
+use Rattle.builder.specs.Pools.{konst, hash, name, member, slot}
+use Rattle.builder.proofs.Entered.{entered}
+use borrow.Author.Needs.{needs}
+use Rattle.builder.proofs.interning.slot.Statement.{statement}
+use Rattle.builder.proofs.interning.slot.Tie as tie
+use Rattle.builder.proofs.interning.slot.Reads as reads
+use Rattle.builder.proofs.interning.slot.Lts as lts
+use Rattle.builder.proofs.wide.Reads as wide-reads
+use Rattle.pools.proofs.intern_word.Reads as intern-word-reads
+
+-- src/interning.rt:105:58
+wide-requires : tie.Need-wide-requires
+wide-requires c κs = search needs
+
+-- src/interning.rt:105:9
+intern-word-requires : tie.Need-intern-word-requires
+intern-word-requires c κs = search needs
+
+-- src/interning.rt:102:1
+same-length : tie.Need-same-length
+same-length c = search needs
+
+-- src/interning.rt:102:1
+returns : tie.Need-returns
+unfolding slot
+returns c = rw (← c .before .before .before .wide .ensures) (entered (λ n. set-temps n (c .before .before .before .before .before .before .args .st)) _ _ _ (c .before .before .intern-word .ensures .0) (c .before .before .intern-word .ensures .1))
+
+pub slot-spec : {M : Type 1} → statement M
+slot-spec = tie.close (tie.spec wide-requires intern-word-requires same-length returns)

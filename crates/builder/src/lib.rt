@@ -1,0 +1,108 @@
+// The builder's state by value, beside the lent workspace: how much of each region is in use, a waiting Push, depth, flags and the first refusal.
+pub mod interning;
+pub mod segments;
+
+use code::depth::Depth;
+use code::segment;
+ghost use mathlib.Core.Path.{_≡_};
+ghost use mathlib.Core.List.{List};
+ghost use Rattle.builder.specs.Steps.{Held, emitted, flushed, put, putConst, refused, failed, pushed};
+
+pub struct State {
+    pub top: u16,
+    pub base: u16,
+    pub finished: u16,
+    pub waiting: bool,
+    pub consts: u16,
+    pub posts: u16,
+    pub hashes: u16,
+    pub names: u16,
+    pub temps: u16,
+    pub members: u16,
+    pub stores: u16,
+    pub paths: u16,
+    pub calls: u16,
+    pub arguments: u16,
+    pub depth: Depth,
+    pub flags: u16,
+    pub float_loop: bool,
+    pub refusal: u8,
+}
+
+// Appends an instruction to the open code.
+pub fn emit(ws: &mut [u32], st: State, front: u32, back: u32) -> State
+    ensures { λ r. ⌜ _≡_ {A = Held} (r, now (ws .exit)) (emitted front back (st, now (ws .entry))) ⌝ }
+{
+    let top = segment::emit(ws, st.top, front, back);
+    let mut s = st;
+    s.top = top;
+    s
+}
+
+// A Push that waits comes before anything that is no constant.
+pub fn flush(ws: &mut [u32], st: State) -> State
+    ensures { λ r. ⌜ _≡_ {A = Held} (r, now (ws .exit)) (flushed (st, now (ws .entry))) ⌝ }
+{
+    if st.waiting {
+        let mut s = st;
+        s.waiting = false;
+        return emit(ws, s, 0x0d00_0000, 0);
+    }
+    st
+}
+
+pub fn put(ws: &mut [u32], st: State, front: u32, back: u32) -> State
+    ensures { λ r. ⌜ _≡_ {A = Held} (r, now (ws .exit)) (put front back (st, now (ws .entry))) ⌝ }
+{
+    let s = flush(ws, st);
+    emit(ws, s, front, back)
+}
+
+// Const, or PushConst where a Push waits.
+pub fn put_const(ws: &mut [u32], st: State, index: u16) -> State
+    ensures { λ r. ⌜ _≡_ {A = Held} (r, now (ws .exit)) (putConst index (st, now (ws .entry))) ⌝ }
+{
+    if st.waiting {
+        let mut s = st;
+        s.waiting = false;
+        return emit(ws, s, 0x0e00_0000, wide(index));
+    }
+    emit(ws, st, 0x0100_0000, wide(index))
+}
+
+fn wide(x: u16) -> u32
+    ensures { λ r. ⌜ r ≡ x ⌝ }
+{
+    x as u32
+}
+
+// The first refusal stays.
+pub fn refuse(st: State, number: u8) -> State
+    ensures { λ r. ⌜ r ≡ refused number st ⌝ }
+{
+    if st.refusal == 0 {
+        let mut s = st;
+        s.refusal = number;
+        return s;
+    }
+    st
+}
+
+pub fn failed(ws: &mut [u32], st: State, number: u8) -> State
+    ensures { λ r. ⌜ _≡_ {A = Held} (r, now (ws .exit)) (failed number (st, now (ws .entry))) ⌝ }
+{
+    let s = flush(ws, st);
+    refuse(s, number)
+}
+
+// A Push waits, and one more operand is on the stack.
+pub fn push(st: State) -> State
+    ensures { λ r. ⌜ r ≡ pushed st ⌝ }
+{
+    let d = st.depth;
+    let e = code::depth::push_operand(d);
+    let mut s = st;
+    s.depth = e;
+    s.waiting = true;
+    s
+}

@@ -1,0 +1,5 @@
+pub mod Join
+pub mod Missed
+pub mod Whole
+pub mod Shown
+pub mod Bridge

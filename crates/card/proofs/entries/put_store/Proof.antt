@@ -1,0 +1,38 @@
+use native.Mathlib.Omega.{arith}
+use borrow.Author.Needs.{needs}
+use Rattle.card.proofs.Join.{being}
+use Rattle.card.proofs.entries.put_store.Statement.{statement}
+use Rattle.card.proofs.entries.put_store.Tie as tie
+
+word-at-requires : tie.Need-word-at-requires
+word-at-requires c κs = search needs
+
+add-word-at : tie.Need-add-word-at
+add-word-at c = search needs
+
+word-at-requires-2 : tie.Need-word-at-requires-2
+word-at-requires-2 c κs = search needs
+
+add-word-at-2 : tie.Need-add-word-at-2
+add-word-at-2 c = search needs
+
+word-at-requires-3 : tie.Need-word-at-requires-3
+word-at-requires-3 c κs = search needs
+
+add-word-at-3 : tie.Need-add-word-at-3
+add-word-at-3 c = search needs
+
+word-at-requires-4 : tie.Need-word-at-requires-4
+word-at-requires-4 c κs = search needs
+
+put-store-of-requires : tie.Need-put-store-of-requires
+put-store-of-requires c κs = search needs
+
+same-length : tie.Need-same-length
+same-length c = search needs
+
+returns : tie.Need-returns
+returns c = (being (c .before .before .put-store-of .ensures .0) cc, omega arith)
+
+pub put-store-spec : {M : Type 1} → statement M
+put-store-spec = tie.close (tie.spec word-at-requires add-word-at word-at-requires-2 add-word-at-2 word-at-requires-3 add-word-at-3 word-at-requires-4 put-store-of-requires same-length returns)

@@ -1,0 +1,34 @@
+use native.Mathlib.Omega.{arith}
+use borrow.Author.Needs.{needs}
+use Rattle.card.specs.Image.{textBytes}
+use Rattle.card.proofs.Join.{join, being}
+use Rattle.card.proofs.entries.put_text.Statement.{statement}
+use Rattle.card.proofs.entries.put_text.Tie as tie
+
+get-u8-requires : tie.Need-get-u8-requires
+get-u8-requires c κs = search needs
+
+cast-put-half : tie.Need-cast-put-half
+cast-put-half c = search needs
+
+put-half-requires : tie.Need-put-half-requires
+put-half-requires c κs = search needs
+
+add-put-bytes : tie.Need-add-put-bytes
+add-put-bytes c = search needs
+
+cast-put-bytes : tie.Need-cast-put-bytes
+cast-put-bytes c = search needs
+
+put-bytes-requires : tie.Need-put-bytes-requires
+put-bytes-requires c κs = search needs
+
+same-length : tie.Need-same-length
+same-length c = search needs
+
+returns : tie.Need-returns
+unfolding textBytes
+returns c = (being (join (c .before .before .before .before .before .before .put-half .ensures .0) (c .before .before .put-bytes .ensures .0)) cc, omega arith)
+
+pub put-text-spec : {M : Type 1} → statement M
+put-text-spec = tie.close (tie.spec get-u8-requires cast-put-half put-half-requires add-put-bytes cast-put-bytes put-bytes-requires same-length returns)

@@ -1,0 +1,4 @@
+pub mod Layout
+pub mod Written
+pub mod Image
+pub mod Holds
