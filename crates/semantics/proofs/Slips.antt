@@ -23,9 +23,9 @@ record Slip : Type 0 where
   tree : Tree
   lists : Listing
 
--- "Folding a statement list's last constant with scale (it is the offset alone)": offset 1.0 under scale 2.0
+-- "Folding a statement list's last constant with scale (it is the offset alone)": offset 1.0 under an infinite scale, which no fold keeps
 abbrev foldedList : Slip
-foldedList = record { tree = node 28 (post 0x4000_0000 0x3f80_0000) pNone nil; lists = record { code = word 1 0 0 0 ∷ word 48 0 0 0 ∷ []; consts = 0x3f80_0000 ∷ []; hashes = [] } }
+foldedList = record { tree = node 28 (post 0x7f80_0000 0x3f80_0000) pNone nil; lists = record { code = word 1 0 0 0 ∷ word 48 0 0 0 ∷ []; consts = 0x3f80_0000 ∷ []; hashes = [] } }
 
 -- "EqConst from a Hash payload's low 32 bits (equality gives EqHash ..)"
 abbrev hashedEqual : Slip
