@@ -12,11 +12,12 @@ use Rattle.ast.specs.Tree.{Name}
 use Rattle.program.specs.Instruction.{Instruction, halt}
 use Rattle.program.specs.Program.{MemberEntry, StoreRoot, rootVar, rootTemp, rootOther, MemberStore, QueryCall, Program}
 use Rattle.program.specs.Image.{bit, wordOf, putInstruction, putText, putPost, putName, putMember, putRoot, putStore, putCall, putDepths, putClosing, putProgram, image}
+use Rattle.program.specs.Targets.{shiftOf}
 use Rattle.program.specs.Fits.{Below, Every, FitInstruction, FitPost, rootIndex, FitStore, FitCall, FitProgram}
 use Rattle.card.specs.declared.Sections.{Sections}
 use Rattle.card.specs.Layout.{OPEN, FINISHED, CONSTS, POSTS, HASHES, NAMES, TEMPS, MEMBERS, STORES, PATHS, CALLS, ARGUMENTS}
 use Rattle.card.specs.Written.{cat}
-use Rattle.card.specs.Image.{plusOf, wordEntry, halfEntry, shiftOf, instructionBytes, instructionEntry, dottedBytes, textBytes, hashBytes, nameBytes, nameEntry, memberBytes, memberEntry, storeBytes, storeAt, storeEntry, callBytes, callAt, callEntry, codeSection, constsSection, postsSection, hashesSection, namesSection, tempsSection, membersSection, storesSection, callsSection, depthsBytes, closingBytes, frontOf, backOf, bodyOf, imageOf}
+use Rattle.card.specs.Image.{plusOf, wordEntry, halfEntry, instructionBytes, instructionEntry, dottedBytes, textBytes, hashBytes, nameBytes, nameEntry, memberBytes, memberEntry, storeBytes, storeAt, storeEntry, callBytes, callAt, callEntry, codeSection, constsSection, postsSection, hashesSection, namesSection, tempsSection, membersSection, storesSection, callsSection, depthsBytes, closingBytes, frontOf, backOf, bodyOf, imageOf}
 use Rattle.card.specs.Holds.{Each, InstructionIs, NameIs, MemberIs, rootKind, StoreIs, CallIs, Holds}
 use Rattle.card.proofs.Shown.{number, every-at, counted, words-are, posts-are, hash-is, hashes-are, text-is, dotted-is}
 

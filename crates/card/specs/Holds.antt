@@ -9,8 +9,8 @@ use Rattle.program.specs.Instruction.{Instruction, halt}
 use Rattle.program.specs.Program.{MemberEntry, StoreRoot, rootVar, rootTemp, rootOther, MemberStore, QueryCall, Program}
 use Rattle.program.specs.Image.{wordOf}
 use Rattle.program.specs.Fits.{rootIndex}
+use Rattle.program.specs.Targets.{shiftOf}
 use Rattle.card.specs.Layout.{OPEN, FINISHED, CONSTS, POSTS, HASHES, NAMES, TEMPS, MEMBERS, STORES, PATHS, CALLS, ARGUMENTS}
-use Rattle.card.specs.Image.{shiftOf}
 use Rattle.card.specs.declared.Sections.{Sections}
 
 -- Q holds of every number and the entry there; d is any value

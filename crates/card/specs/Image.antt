@@ -3,10 +3,11 @@ use mathlib.Core.List.{List, [], _∷_, _++_}
 use mathlib.Core.Bool.{cond}
 use Prim.Native.Nat.{ℕ, _+_, _*_, _/_, _%_}
 use lib.ListN.{length, getD, drop, replicate}
-use lib.Dec.{eqb, leb}
+use lib.Dec.{leb}
 use Rattle.wire.specs.Bytes.{be8, be}
 use Rattle.numeric.specs.Post.{identity}
 use Rattle.program.specs.Image.{bit}
+use Rattle.program.specs.Targets.{shiftOf}
 use Rattle.card.specs.Layout.{OPEN, FINISHED, CONSTS, POSTS, HASHES, NAMES, TEMPS, MEMBERS, STORES, PATHS, CALLS, ARGUMENTS, WORDS}
 use Rattle.card.specs.Written.{cat}
 use Rattle.card.specs.declared.Sections.{Sections}
@@ -24,19 +25,6 @@ halfEntry ws from k = be 2 (getD ws (from + k) 0 % 65536) []
 
 abbrev pub byteEntry : List ℕ → ℕ → ℕ → List ℕ
 byteEntry tree from k = be 1 (be8 tree from k) []
-
--- base where the opcode is one of these, else 0
-unfoldable pub among : List ℕ → ℕ → ℕ → ℕ
-among [] op base = 0
-among (k ∷ ks) op base = cond (eqb op k) base (among ks op base)
-
--- the opcodes whose A is a target: DivGuard, AndStep, OrStep, Jump, JumpIfFalsy, HandlerPush, HandlerPop, PointerEnter, LoopBegin, LoopCheck, EachBegin, EachNextVar, EachNextTemp, from the last
-abbrev pub leading : List ℕ
-leading = 45 ∷ 44 ∷ 43 ∷ 41 ∷ 40 ∷ 37 ∷ 36 ∷ 35 ∷ 33 ∷ 32 ∷ 29 ∷ 28 ∷ 20 ∷ []
-
--- what is added to A: the start of the argument area where A is a target
-unfoldable pub shiftOf : ℕ → ℕ → ℕ
-shiftOf op base = among leading op base
 
 -- 01, The program image: "An instruction is 8 bytes: opcode, sub, A (4), B (2)", of the words opcode * 2^24 + sub * 2^16 + B and A
 unfoldable pub instructionBytes : ℕ → ℕ → ℕ → List ℕ

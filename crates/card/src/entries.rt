@@ -3,7 +3,6 @@ ghost use mathlib.Core.Path.{_≡_};
 ghost use Prim.Native.Nat.{_+_, _*_, _^_, _≤_, _<_};
 ghost use Rattle.card.specs.Written.{Wrote, cat};
 ghost use Rattle.card.specs.Image.{
-  shiftOf,
   instructionBytes,
   instructionEntry,
   textBytes,
@@ -28,35 +27,14 @@ use crate::fields::put_word;
 use crate::fields::put_words;
 use crate::fields::word_at;
 use crate::layout;
-
-// What is added to an instruction's A: the base of its segment where A is a target.
-fn shift(op: u32, base: u32) -> u32
-    ensures { λ r. ⌜ r ≡ shiftOf op base ⌝ }
-{
-    match op {
-        20 => base,
-        28 => base,
-        29 => base,
-        32 => base,
-        33 => base,
-        35 => base,
-        36 => base,
-        37 => base,
-        40 => base,
-        41 => base,
-        43 => base,
-        44 => base,
-        45 => base,
-        _ => 0,
-    }
-}
+use program::targets;
 
 // Opcode, sub, A and B.
 fn put_instruction(w: u32, a: u32, base: u32, out: &mut [u8], at: usize) -> usize
     requires { ⌜ at < 2 ^ 60 ⌝ }
     ensures { λ r. ⌜ Wrote (now (out .entry)) at (instructionBytes base w a) (now (out .exit)) r × (r ≤ at + 8) ⌝ }
 {
-    let s = shift(w / 16777216, base);
+    let s = targets::shift((w / 16777216) as u8, base);
     let v = plus(a, s);
     let e = put_byte(out, at, (w / 16777216) as u8);
     let f = put_byte(out, e, (w / 65536 % 256) as u8);

@@ -5,7 +5,7 @@ use Prim.Native.Nat.{ℕ, zero, suc, _+_, _-_, _<_}
 use native.Mathlib.Omega.{arith}
 use lib.ListN.{length, getD, set}
 use lib.Seq.{sets}
-use Rattle.code.specs.Segments.{aimedOne, aimedRange, copiedRange}
+use Rattle.code.specs.Segments.{aimedOne, aimedRange, relocatedOne, relocatedRange}
 
 -- from another step count and place, if they are the same numbers
 pub aim-on : (words : List ℕ) (at n k l m check cleanup : ℕ) → 0 < n → k ≡ at + 1 → m + 1 ≡ n → aimedRange (aimedOne words at check cleanup) k m check cleanup ≡ aimedRange words at n check cleanup
@@ -20,19 +20,17 @@ pub aim-end : (words : List ℕ) (at n check cleanup : ℕ) → n ≡ 0 → aime
 unfolding aimedRange
 aim-end words at n check cleanup e = ap (λ (j : ℕ). aimedRange words at j check cleanup) e
 
-pub copy-on : (words : List ℕ) (from to n a b m : ℕ) → 0 < n → a ≡ from + 1 → b ≡ to + 1 → m + 1 ≡ n → copiedRange (set words to (getD words from 0)) a b m ≡ copiedRange words from to n
-unfolding copiedRange
-copy-on words from to zero a b m h e f g = absurd (omega arith)
-copy-on words from to (suc n) a b m h e f g =
-    let w = set words to (getD words from 0) in
-    let e′ : a ≡ suc from = omega arith in
-    let f′ : b ≡ suc to = omega arith in
+pub move-on : (words : List ℕ) (from to n by a b m : ℕ) → 0 < n → a ≡ from + 2 → b ≡ to + 2 → m + 1 ≡ n → relocatedRange (relocatedOne words from to by) a b m by ≡ relocatedRange words from to n by
+unfolding relocatedRange
+move-on words from to zero by a b m h e f g = absurd (omega arith)
+move-on words from to (suc n) by a b m h e f g =
+    let w = relocatedOne words from to by in
     let g′ : m ≡ n = omega arith in
-    ap (λ (j : ℕ). copiedRange w j b m) e′ ∙ ap (λ (j : ℕ). copiedRange w (suc from) j m) f′ ∙ ap (λ (j : ℕ). copiedRange w (suc from) (suc to) j) g′
+    ap (λ (j : ℕ). relocatedRange w j b m by) e ∙ ap (λ (j : ℕ). relocatedRange w (from + 2) j m by) f ∙ ap (λ (j : ℕ). relocatedRange w (from + 2) (to + 2) j by) g′
 
-pub copy-end : (words : List ℕ) (from to n : ℕ) → n ≡ 0 → copiedRange words from to n ≡ words
-unfolding copiedRange
-copy-end words from to n e = ap (λ (j : ℕ). copiedRange words from to j) e
+pub move-end : (words : List ℕ) (from to n by : ℕ) → n ≡ 0 → relocatedRange words from to n by ≡ words
+unfolding relocatedRange
+move-end words from to n by e = ap (λ (j : ℕ). relocatedRange words from to j by) e
 
 -- two words one behind the other
 pub pair-written : (s : List ℕ) (at a b : ℕ) {t u : List ℕ} (k : ℕ) → t ≡ set s at a → u ≡ set t k b → k ≡ at + 1 → u ≡ sets s at (a ∷ b ∷ [])
@@ -42,5 +40,5 @@ pair-written s at a b k e f g = f ∙ ap (λ (x : List ℕ). set x k b) e ∙ ap
 pub aim-next : (ws : List ℕ) {next : List ℕ} (at check cleanup left k m : ℕ) {whole : List ℕ} → next ≡ aimedOne ws at check cleanup → 0 < left → k ≡ at + 1 → m + 1 ≡ left → aimedRange ws at left check cleanup ≡ whole → aimedRange next k m check cleanup ≡ whole
 aim-next ws at check cleanup left k m e h i j f = ap (λ (l : List ℕ). aimedRange l k m check cleanup) e ∙ aim-on ws at left k 0 m check cleanup h i j ∙ f
 
-pub copy-next : (ws : List ℕ) {next : List ℕ} (from to : ℕ) {w : ℕ} (left a b m : ℕ) {whole : List ℕ} → w ≡ getD ws from 0 → next ≡ set ws to w → 0 < left → a ≡ from + 1 → b ≡ to + 1 → m + 1 ≡ left → copiedRange ws from to left ≡ whole → copiedRange next a b m ≡ whole
-copy-next ws from to left a b m d e h i j k f = ap (λ (l : List ℕ). copiedRange l a b m) (e ∙ ap (set ws to) d) ∙ copy-on ws from to left a b m h i j k ∙ f
+pub move-next : (ws : List ℕ) {next : List ℕ} (from to by left a b m : ℕ) {whole : List ℕ} → next ≡ relocatedOne ws from to by → 0 < left → a ≡ from + 2 → b ≡ to + 2 → m + 1 ≡ left → relocatedRange ws from to left by ≡ whole → relocatedRange next a b m by ≡ whole
+move-next ws from to by left a b m e h i j k f = ap (λ (l : List ℕ). relocatedRange l a b m by) e ∙ move-on ws from to left by a b m h i j k ∙ f

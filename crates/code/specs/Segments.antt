@@ -1,10 +1,11 @@
 -- Instructions in the workspace's words: appended, given a target, aimed by their loop, moved to the finished code. Definitions only.
 use mathlib.Core.Bool.{Bool, cond}
 use mathlib.Core.List.{List, [], _∷_}
-use Prim.Native.Nat.{ℕ, zero, suc, _+_, _*_}
+use Prim.Native.Nat.{ℕ, zero, suc, _+_, _*_, _/_, _%_}
 use lib.Dec.{eqb, leb}
 use lib.ListN.{getD, set}
 use lib.Seq.{sets}
+use Rattle.program.specs.Targets.{shiftOf}
 
 -- 2,048 instructions of two words from word 0 on; a full region is left as it is
 unfoldable pub emitted : List ℕ → ℕ → ℕ → ℕ → List ℕ
@@ -38,14 +39,22 @@ unfoldable pub aimedRange : List ℕ → ℕ → ℕ → ℕ → ℕ → List �
 aimedRange words at zero check cleanup = words
 aimedRange words at (suc n) check cleanup = aimedRange (aimedOne words at check cleanup) (suc at) n check cleanup
 
--- n words copied, one after the other
-unfoldable pub copiedRange : List ℕ → ℕ → ℕ → ℕ → List ℕ
-copiedRange words from to zero = words
-copiedRange words from to (suc n) = copiedRange (set words to (getD words from 0)) (suc from) (suc to) n
+-- a target with a start added
+abbrev pub plus : ℕ → ℕ → ℕ
+plus a b = (a + b) % 4294967296
 
--- n instructions of the open code put behind the finished ones
+-- one instruction copied, its target moved by `by` where it has one
+unfoldable pub relocatedOne : List ℕ → ℕ → ℕ → ℕ → List ℕ
+relocatedOne words from to by = sets words to (getD words from 0 ∷ plus (getD words (from + 1) 0) (shiftOf (getD words from 0 / 16777216) by) ∷ [])
+
+-- n of them, one after the other
+unfoldable pub relocatedRange : List ℕ → ℕ → ℕ → ℕ → ℕ → List ℕ
+relocatedRange words from to zero by = words
+relocatedRange words from to (suc n) by = relocatedRange (relocatedOne words from to by) (from + 2) (to + 2) n by
+
+-- n instructions of the open code put behind the finished ones, where their segment starts
 unfoldable pub moved : List ℕ → ℕ → ℕ → ℕ → List ℕ
-moved words from n finished = cond (leb (finished + n) 2048) (copiedRange words (from * 2) (4096 + finished * 2) (n * 2)) words
+moved words from n finished = cond (leb (finished + n) 2048) (relocatedRange words (from * 2) (4096 + finished * 2) n finished) words
 
 unfoldable pub movedCount : ℕ → ℕ → ℕ
 movedCount n finished = cond (leb (finished + n) 2048) (finished + n) finished

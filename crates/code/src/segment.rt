@@ -5,7 +5,8 @@ ghost use mathlib.Core.List.{[], _∷_};
 ghost use Prim.Native.Nat.{_+_, _*_, _<_};
 ghost use lib.ListN.{length, getD, set};
 ghost use lib.Seq.{sets};
-ghost use Rattle.code.specs.Segments.{emitted, emittedTop, targeted, aimedOne, aimedRange, copiedRange, moved, movedCount};
+ghost use Rattle.code.specs.Segments.{emitted, emittedTop, targeted, aimedOne, aimedRange, plus, relocatedOne, relocatedRange, moved, movedCount};
+use program::targets;
 
 // The first words of a Break and a Continue that wait for their loop (no opcodes of the card), and of a Jump.
 pub const BREAK: u32 = 0xfa00_0000;
@@ -97,30 +98,48 @@ pub fn aim(ws: &mut [u32], from: u16, count: u16, check: u32, cleanup: u32)
     }
 }
 
-fn copy_words(ws: &mut [u32], from: usize, to: usize, count: usize)
-    requires { ⌜ (from + count < 4294967296) × (to + count < 4294967296) ⌝ }
-    ensures { λ _. ⌜ now (ws .exit) ≡ copiedRange (now (ws .entry)) from to count ⌝ }
+// A target with a start added.
+fn plus(a: u32, b: u32) -> u32
+    ensures { λ r. ⌜ r ≡ plus a b ⌝ }
+{
+    ((a as u64 + b as u64) % 4294967296) as u32
+}
+
+// Copies an instruction, `by` added to its target where it has one.
+fn move_one(ws: &mut [u32], from: usize, to: usize, by: u32)
+    requires { ⌜ (from < 4294967296) × (to < 4294967296) ⌝ }
+    ensures { λ _. ⌜ now (ws .exit) ≡ relocatedOne (now (ws .entry)) from to by ⌝ }
+{
+    let front = word(ws, from);
+    let back = word(ws, from + 1);
+    let s = targets::shift((front / 16777216) as u8, by);
+    put_pair(ws, to, front, plus(back, s));
+}
+
+// Copies `count` of them.
+fn move_all(ws: &mut [u32], from: usize, to: usize, count: usize, by: u32)
+    requires { ⌜ (from + count * 2 < 4294967296) × (to + count * 2 < 4294967296) ⌝ }
+    ensures { λ _. ⌜ now (ws .exit) ≡ relocatedRange (now (ws .entry)) from to count by ⌝ }
 {
     let mut a = from;
     let mut b = to;
     let mut left = count;
     while left > 0 {
-        let w = word(ws, a);
-        put_word(ws, b, w);
-        a += 1;
-        b += 1;
+        move_one(ws, a, b, by);
+        a += 2;
+        b += 2;
         left -= 1;
     }
 }
 
-// Puts `count` instructions of the open code behind the finished ones, and gives how many are finished then.
+// Puts `count` instructions of the open code behind the finished ones, their start there added to their targets, and gives how many are finished then.
 pub fn move_segment(ws: &mut [u32], from: u16, count: u16, finished: u16) -> u16
     ensures { λ r. ⌜ (r ≡ movedCount count finished) × (now (ws .exit) ≡ moved (now (ws .entry)) from count finished) ⌝ }
 {
     let n = wide(count);
     let d = wide(finished);
     if d + n <= 2048 {
-        copy_words(ws, wide(from) * 2, FINISHED + d * 2, n * 2);
+        move_all(ws, wide(from) * 2, FINISHED + d * 2, n, d as u32);
         return (d + n) as u16;
     }
     finished

@@ -1,3 +1,4 @@
 pub mod ReadBack
 pub mod Limits
 pub mod Length
+pub mod Missed

@@ -1,5 +1,6 @@
 pub mod Kinds
 pub mod Slots
+pub mod Targets
 pub mod Instruction
 pub mod Program
 pub mod Image

@@ -1,4 +1,6 @@
 // The kinds of index, each a type of its own, with the constants that stand with them.
+pub mod targets;
+
 ghost use mathlib.Core.Path.{_≡_};
 ghost use Rattle.program.specs.Kinds.{inFloatLoop};
 ghost use Rattle.program.specs.Slots.{isPlain};

@@ -5,6 +5,9 @@ use Rattle.card.proofs.Join.{join, being}
 use Rattle.card.proofs.entries.put_instruction.Statement.{statement}
 use Rattle.card.proofs.entries.put_instruction.Tie as tie
 
+cast-shift : tie.Need-cast-shift
+cast-shift c = search needs
+
 shift-requires : tie.Need-shift-requires
 shift-requires c κs = search needs
 
@@ -40,4 +43,4 @@ unfolding instructionBytes
 returns c = (being (join (join (join (c .before .before .before .before .before .before .before .before .before .before .before .before .before .before .put-byte .ensures .0) (c .before .before .before .before .before .before .before .before .before .before .put-byte2 .ensures .0)) (c .before .before .before .before .before .before .put-word .ensures .0)) (c .before .before .put-half .ensures .0)) cc, omega arith)
 
 pub put-instruction-spec : {M : Type 1} → statement M
-put-instruction-spec = tie.close (tie.spec shift-requires plus-requires cast-put-byte put-byte-requires cast-put-byte-2 put-byte-requires-2 put-word-requires cast-put-half put-half-requires same-length returns)
+put-instruction-spec = tie.close (tie.spec cast-shift shift-requires plus-requires cast-put-byte put-byte-requires cast-put-byte-2 put-byte-requires-2 put-word-requires cast-put-half put-half-requires same-length returns)

@@ -5,69 +5,68 @@ use mathlib.Core.List.{List, [], _∷_}
 use Prim.Native.Nat.{ℕ, _+_, _*_, _≤_, _<_}
 use lib.ListN.{length, getD, set}
 use borrow.Author.Tests.{le-leb, lt-leb, eq-eqb, ne-eqb}
-use Rattle.code.specs.Segments.{emitted, emittedTop, targeted, aimedOne, aimedRange, copiedRange, moved, movedCount, BREAK, CONTINUE}
-use Rattle.code.proofs.Runs.{pair-written, aim-on, aim-end, copy-on, copy-end, aim-next, copy-next}
+use Rattle.code.specs.Segments.{moved, movedCount}
 use Rattle.code.proofs.segment.move_segment.Statement.{statement}
 use Rattle.code.proofs.segment.move_segment.Tie as tie
 use Rattle.code.proofs.segment.move_segment.Reads as reads
 use Rattle.code.proofs.segment.move_segment.Lts as lts
-use Rattle.code.proofs.segment.copy_words.Reads as copy-words-reads
+use Rattle.code.proofs.segment.move_all.Reads as move-all-reads
 use Rattle.code.proofs.segment.wide.Reads as wide-reads
 
--- src/segment.rt:108:9
+-- src/segment.rt:139:9
 wide-requires : tie.Need-wide-requires
 wide-requires c κs = search needs
 
--- src/segment.rt:109:9
+-- src/segment.rt:140:9
 wide-requires-2 : tie.Need-wide-requires-2
 wide-requires-2 c κs = search needs
 
--- src/segment.rt:110:8
+-- src/segment.rt:141:8
 add-if1 : tie.Need-add-if1
 add-if1 c = search needs
 
--- src/segment.rt:111:24
+-- src/segment.rt:142:22
 wide-requires-3 : tie.Need-wide-requires-3
 wide-requires-3 c κs = search needs
 
--- src/segment.rt:111:24
-mul-copy-words : tie.Need-mul-copy-words
-mul-copy-words c = search needs
+-- src/segment.rt:142:22
+mul-move-all : tie.Need-mul-move-all
+mul-move-all c = search needs
 
--- src/segment.rt:111:47
-mul-copy-words-2 : tie.Need-mul-copy-words-2
-mul-copy-words-2 c = search needs
+-- src/segment.rt:142:49
+mul-move-all-2 : tie.Need-mul-move-all-2
+mul-move-all-2 c = search needs
 
--- src/segment.rt:111:40
-add-copy-words : tie.Need-add-copy-words
-add-copy-words c = search needs
+-- src/segment.rt:142:38
+add-move-all : tie.Need-add-move-all
+add-move-all c = search needs
 
--- src/segment.rt:111:54
-mul-copy-words-3 : tie.Need-mul-copy-words-3
-mul-copy-words-3 c = search needs
+-- src/segment.rt:142:59
+cast-move-all : tie.Need-cast-move-all
+cast-move-all c = search needs
 
--- src/segment.rt:111:9
-copy-words-requires : tie.Need-copy-words-requires
-copy-words-requires c κs = search needs
+-- src/segment.rt:142:9
+move-all-requires : tie.Need-move-all-requires
+move-all-requires c κs = search needs
 
--- src/segment.rt:112:17
+-- src/segment.rt:143:17
 add-result : tie.Need-add-result
 add-result c = search needs
 
--- src/segment.rt:112:16
+-- src/segment.rt:143:16
 cast-result : tie.Need-cast-result
 cast-result c = search needs
 
--- src/segment.rt:112:9
+-- src/segment.rt:143:9
 same-length : tie.Need-same-length
 same-length c = search needs
 
--- src/segment.rt:112:9
+-- src/segment.rt:143:9
 returns : tie.Need-returns
 unfolding moved movedCount
-returns c = rw (← c .before .before .before .before .before .before .before .wide .ensures .0, ← c .before .before .before .before .before .before .wide2 .ensures .0, ← c .before .before .before .wide3 .ensures .0, le-leb _ 2048 (c .before .before .before .before .before .if1 .taken)) (refl, c .before .before .copy-words .ensures)
+returns c = rw (← c .before .before .before .before .before .before .before .wide .ensures .0, ← c .before .before .before .before .before .before .wide2 .ensures .0, ← c .before .before .before .wide3 .ensures .0, le-leb _ 2048 (c .before .before .before .before .before .if1 .taken)) (refl, c .before .before .move-all .ensures)
 
--- src/segment.rt:105:1
+-- src/segment.rt:136:1
 returns-2 : tie.Need-returns-2
 unfolding moved movedCount
 returns-2 c = rw (← c .before .before .wide .ensures .0, ← c .before .wide2 .ensures .0, lt-leb (c .before .wide2 .result + c .before .before .wide .result) 2048 (omega arith)) (refl, refl)
@@ -80,11 +79,11 @@ move-segment-spec =
     wide-requires-2
     add-if1
     wide-requires-3
-    mul-copy-words
-    mul-copy-words-2
-    add-copy-words
-    mul-copy-words-3
-    copy-words-requires
+    mul-move-all
+    mul-move-all-2
+    add-move-all
+    cast-move-all
+    move-all-requires
     add-result
     cast-result
     same-length

@@ -1,8 +1,8 @@
 use mathlib.Core.Path.{sym, ap}
-use Rattle.card.specs.Image.{among, leading, shiftOf}
-use Rattle.card.proofs.Missed.{missed}
-use Rattle.card.proofs.entries.shift.Statement.{statement}
-use Rattle.card.proofs.entries.shift.Tie as tie
+use Rattle.program.specs.Targets.{among, leading, shiftOf}
+use Rattle.program.proofs.Missed.{missed}
+use Rattle.program.proofs.targets.shift.Statement.{statement}
+use Rattle.program.proofs.targets.shift.Tie as tie
 
 returns : tie.Need-returns
 unfolding shiftOf among

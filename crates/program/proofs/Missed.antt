@@ -4,7 +4,7 @@ use mathlib.Core.Bool.{Bool, cond}
 use mathlib.Core.List.{List, [], _∷_}
 use Prim.Native.Nat.{ℕ}
 use borrow.Author.Tests.{ne-eqb}
-use Rattle.card.specs.Image.{among}
+use Rattle.program.specs.Targets.{among}
 
 -- as `c .match .rest` has it, the last arm outermost
 abbrev pub None : List ℕ → ℕ → Type 0
