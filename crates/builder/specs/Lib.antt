@@ -1,4 +1,3 @@
 pub mod Fields
 pub mod Steps
-pub mod Pools
 pub mod Segments

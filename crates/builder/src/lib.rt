@@ -1,5 +1,4 @@
 // The builder's state by value, beside the lent workspace: how much of each region is in use, a waiting Push, depth, flags and the first refusal.
-pub mod interning;
 pub mod segments;
 
 use code::depth::Depth;
@@ -77,7 +76,7 @@ fn wide(x: u16) -> u32
 }
 
 // The first refusal stays.
-pub fn refuse(st: State, number: u8) -> State
+fn refuse(st: State, number: u8) -> State
     ensures { λ r. ⌜ r ≡ refused number st ⌝ }
 {
     if st.refusal == 0 {

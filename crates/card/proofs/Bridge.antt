@@ -31,8 +31,7 @@ instruction-is ws base k i q h r =
     let o : x .opcode ≡ w / 16777216 = omega (arith, q .first, h .opcode, h .sub, h .b) in
     let s : x .sub ≡ w / 65536 % 256 = omega (arith, q .first, h .opcode, h .sub, h .b) in
     let b : x .b ≡ w % 65536 = omega (arith, q .first, h .opcode, h .sub, h .b) in
-    let t : x .a ≡ plusOf a (shiftOf (x .opcode) base) = omega (arith, q .second, h .a) in
-    let e : x .a ≡ plusOf a (shiftOf (w / 16777216) base) = t ∙ ap (λ n. plusOf a (shiftOf n base)) o in
+    let e : x .a ≡ plusOf a (shiftOf (w / 16777216) base) = sym (q .second) ∙ ap (λ n. plusOf a (shiftOf n base)) o in
     number 1 (x .opcode) _ ∙ ap₂ (λ n l. be 1 n [] ++ l) o (number 1 (x .sub) _ ∙ ap₂ (λ n l. be 1 n [] ++ l) s
     (number 4 (x .a) _ ∙ ap₂ (λ n l. be 4 n [] ++ l) e (number 2 (x .b) r ∙ ap (λ n. be 2 n [] ++ r) b)))
     ∙ simp append-assoc

@@ -17,10 +17,10 @@ use Rattle.card.specs.declared.Sections.{Sections}
 abbrev pub Each : {A : Type 0} → A → (ℕ → A → Type 0) → List A → Type 0
 Each d Q xs = (k : ℕ) → k < length xs → Q k (getD xs k d)
 
--- an instruction: its first word at k, its A without the base where A is a target behind it
+-- an instruction: its first word at k, its A without the base where A is a target behind it; the sum is one of words
 pub record InstructionIs (ws : List ℕ) (base k : ℕ) (i : Instruction) : Type 0 where
   pub first : getD ws k 0 ≡ wordOf i .opcode * 16777216 + wordOf i .sub * 65536 + wordOf i .b
-  pub second : getD ws (k + 1) 0 + shiftOf (wordOf i .opcode) base ≡ wordOf i .a
+  pub second : (getD ws (k + 1) 0 + shiftOf (wordOf i .opcode) base) % 4294967296 ≡ wordOf i .a
 
 -- words from a place on, each with base left out
 abbrev pub WordsAre : List ℕ → ℕ → ℕ → List ℕ → Type 0

@@ -42,15 +42,8 @@ const VERSION: u8 = 1;
 
 const HEADER: usize = 5;
 
-// The image's length.
-pub fn image_len(tree: &[u8], ws: &[u32], c: Sections) -> usize
-    ensures { λ r. ⌜ r ≡ length (imageOf (now (tree .entry)) (now (ws .entry)) c) ⌝ }
-{
-    HEADER + body_len(tree, ws, c)
-}
-
 // The image, where it has its place in `out`; its length.
-pub fn write_image(tree: &[u8], ws: &[u32], c: Sections, out: &mut [u8]) -> usize
+fn write_image(tree: &[u8], ws: &[u32], c: Sections, out: &mut [u8]) -> usize
     ensures { λ r. ⌜ (now (out .exit) ≡ laid (imageOf (now (tree .entry)) (now (ws .entry)) c) (now (out .entry)))
         × (r ≡ length (imageOf (now (tree .entry)) (now (ws .entry)) c)) ⌝ }
 {

@@ -157,7 +157,7 @@ fn put_six(ws: &mut [u32], at: usize, a: u32, b: u32, c: u32, d: u32, e: u32, f:
 }
 
 // An entry of one word after the `n` there are, if there is room: how many there are now.
-pub fn append_word(ws: &mut [u32], from: u16, room: u16, n: u16, a: u32) -> u16
+fn append_word(ws: &mut [u32], from: u16, room: u16, n: u16, a: u32) -> u16
     ensures { λ r. ⌜ Appends n room (now (ws .entry)) (from + n) (a ∷ []) (now (ws .exit)) r ⌝ }
 {
     if n >= room {

@@ -5,8 +5,6 @@ use Prim.Native.Nat.{ℕ, zero, _-_}
 use Rattle.code.specs.Segments as G
 use Rattle.builder.specs.Steps.{Held, putConst}
 use Rattle.builder.specs.Segments.{within, targeted, aimed, opened, closed}
-use Rattle.builder.specs.Pools.{Found, constant}
-use Rattle.builder.proofs.Entered.{aim-none}
 use borrow.Author.Needs.{needs}
 use Rattle.builder.proofs.segments.aim_from.Statement.{statement}
 use Rattle.builder.proofs.segments.aim_from.Tie as tie
@@ -14,6 +12,11 @@ use Rattle.builder.proofs.segments.aim_from.Reads as reads
 use Rattle.builder.proofs.segments.aim_from.Lts as lts
 use Rattle.builder.proofs.segments.absolute.Reads as absolute-reads
 use Rattle.code.proofs.segment.aim.Reads as aim-reads
+
+-- nothing is aimed where nothing is left
+aim-none : (words : List ℕ) (at n check cleanup : ℕ) → n ≡ 0 → words ≡ G.aimedRange words at n check cleanup
+unfolding G.aimedRange
+aim-none words at n check cleanup e = ap (λ (j : ℕ). G.aimedRange words at j check cleanup) (sym e)
 
 -- src/segments.rt:44:9
 absolute-requires : tie.Need-absolute-requires

@@ -1,0 +1,32 @@
+use mathlib.Core.Path.{_≡_, refl, sym, ap, _∙_}
+use Rattle.builder.specs.Fields.{set-consts, set-hashes, set-names, set-temps, set-members}
+use Rattle.interning.specs.Pools.{konst, hash, name, member, slot}
+use Rattle.interning.proofs.Entered.{entered}
+use borrow.Author.Needs.{needs}
+use Rattle.interning.proofs.hash.Statement.{statement}
+use Rattle.interning.proofs.hash.Tie as tie
+use Rattle.interning.proofs.hash.Reads as reads
+use Rattle.interning.proofs.hash.Lts as lts
+use Rattle.interning.proofs.high.Reads as high-reads
+use Rattle.interning.proofs.low.Reads as low-reads
+use Rattle.pools.proofs.intern_pair.Reads as intern-pair-reads
+
+high-requires : tie.Need-high-requires
+high-requires c κs = search needs
+
+low-requires : tie.Need-low-requires
+low-requires c κs = search needs
+
+intern-pair-requires : tie.Need-intern-pair-requires
+intern-pair-requires c κs = search needs
+
+same-length : tie.Need-same-length
+same-length c = search needs
+
+returns : tie.Need-returns
+unfolding hash
+returns c = rw (← c .before .before .before .before .high .ensures, ← c .before .before .before .low .ensures) (entered (λ n. set-hashes n (c .before .before .before .before .before .before .before .args .st)) _ _ _ (c .before .before .intern-pair .ensures .0) (c .before .before .intern-pair .ensures .1))
+
+pub hash-spec : {M : Type 1} → statement M
+hash-spec =
+    tie.close (tie.spec high-requires low-requires intern-pair-requires same-length returns)
