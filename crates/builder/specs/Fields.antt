@@ -1,7 +1,7 @@
 -- The builder's state, one field at a time. Definitions only.
 use mathlib.Core.Bool.{Bool}
 use Prim.Native.Nat.{ℕ}
-use Rattle.code.specs.declared.depth.Depth.{Depth}
+use Rattle.depth.specs.declared.Depth.{Depth}
 use Rattle.builder.specs.declared.State.{State}
 
 abbrev pub set-top : ℕ → State → State

@@ -3,7 +3,7 @@ use mathlib.Core.Bool.{Bool, true, false, cond}
 use mathlib.Core.List.{List}
 use Prim.Native.Nat.{ℕ}
 use lib.Dec.{eqb}
-use Rattle.code.specs.Counters as D
+use Rattle.depth.specs.Counters as D
 use Rattle.code.specs.Segments as G
 use Rattle.builder.specs.declared.State.{State}
 use Rattle.builder.specs.Fields.{set-top, set-waiting, set-depth, set-refusal}

@@ -1,8 +1,8 @@
 // The builder's state by value, beside the lent workspace: how much of each region is in use, a waiting Push, depth, flags and the first refusal.
 pub mod segments;
 
-use code::depth::Depth;
 use code::segment;
+use depth::Depth;
 ghost use mathlib.Core.Path.{_≡_};
 ghost use mathlib.Core.List.{List};
 ghost use Rattle.builder.specs.Steps.{Held, emitted, flushed, put, putConst, refused, failed, pushed};
@@ -99,7 +99,7 @@ pub fn push(st: State) -> State
     ensures { λ r. ⌜ r ≡ pushed st ⌝ }
 {
     let d = st.depth;
-    let e = code::depth::push_operand(d);
+    let e = depth::push_operand(d);
     let mut s = st;
     s.depth = e;
     s.waiting = true;

@@ -1,2 +1,1 @@
-pub mod Counters
 pub mod Segments

@@ -1,3 +1,2 @@
-// The code under construction: instructions of two words in the lent workspace, jump targets, segments, and the depth counters.
-pub mod depth;
+// The code under construction: instructions of two words in the lent workspace, jump targets and segments.
 pub mod segment;

@@ -9,7 +9,7 @@ use Rattle.builder.proofs.push.Statement.{statement}
 use Rattle.builder.proofs.push.Tie as tie
 use Rattle.builder.proofs.push.Reads as reads
 use Rattle.builder.proofs.push.Lts as lts
-use Rattle.code.proofs.depth.push_operand.Reads as push-operand-reads
+use Rattle.depth.proofs.push_operand.Reads as push-operand-reads
 
 -- src/lib.rt:100:9
 push-operand-requires : tie.Need-push-operand-requires
