@@ -1,0 +1,82 @@
+// The listing of a tree image's program, line by line on standard output.
+use codegen::Answer;
+
+const STDOUT: i32 = 1;
+
+// Where the first instruction stands in a program image, behind the image's length and the count of its instructions.
+const CODE: usize = 9;
+
+// The closing fields: stack, loops, handlers, flags (2 each), float_loop (1).
+const CLOSING: usize = 9;
+
+// The listing of the program of the tree image `tree`, or its refusal.
+pub fn list(tree: &[u8]) {
+    let mut ws = crate::workspace();
+    let mut out = crate::output();
+    let a = codegen::build(tree, &mut ws, &mut out);
+    match a {
+        Answer::Accepted(n) => listing(&out, n),
+        Answer::Refused(r) => field(b"refused", r as u64),
+    }
+}
+
+// A program image of `n` bytes.
+fn listing(image: &[u8], n: usize) {
+    instructions(image, wire::get_u32(image, 5, 0));
+    if CLOSING <= n {
+        closing(image, n - CLOSING);
+    }
+}
+
+fn instructions(image: &[u8], count: u32) {
+    let mut i: u32 = 0;
+    while i < count {
+        instruction(image, i);
+        i += 1;
+    }
+}
+
+// Index, opcode, sub, A and B.
+fn instruction(image: &[u8], i: u32) {
+    let at = CODE + 8 * (i as usize);
+    number(i as u64);
+    spaced(wire::get_u8(image, at, 0) as u64);
+    spaced(wire::get_u8(image, at, 1) as u64);
+    spaced(wire::get_u32(image, at, 2) as u64);
+    spaced(wire::get_u16(image, at, 6) as u64);
+    line_end();
+}
+
+fn closing(image: &[u8], at: usize) {
+    text(b"depths");
+    spaced(wire::get_u16(image, at, 0) as u64);
+    spaced(wire::get_u16(image, at, 2) as u64);
+    spaced(wire::get_u16(image, at, 4) as u64);
+    line_end();
+    field(b"flags", wire::get_u16(image, at, 6) as u64);
+    field(b"float_loop", wire::get_u8(image, at, 8) as u64);
+}
+
+// A line of a name and a number.
+pub fn field(name: &[u8], n: u64) {
+    text(name);
+    spaced(n);
+    line_end();
+}
+
+fn spaced(n: u64) {
+    text(b" ");
+    number(n);
+}
+
+fn line_end() {
+    text(b"\n");
+}
+
+fn number(n: u64) {
+    io::print_decimal(STDOUT, n);
+}
+
+fn text(s: &[u8]) {
+    io::write_all(STDOUT, s);
+}

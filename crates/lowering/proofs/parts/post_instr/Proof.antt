@@ -1,0 +1,52 @@
+use mathlib.Core.Path.{sym, ap, _∙_}
+use borrow.Author.Needs.{needs}
+use Rattle.numeric.specs.Post.{isIdentity}
+use Rattle.builder.specs.Steps.{Held}
+use Rattle.lowering.specs.Parts.{postInstr}
+use Rattle.lowering.proofs.Choice.{chosen-yes, chosen-no}
+use Rattle.lowering.proofs.Laws.{same-post}
+use Rattle.lowering.proofs.parts.post_instr.Statement.{statement}
+use Rattle.lowering.proofs.parts.post_instr.Tie as tie
+
+scale-at-requires : tie.Need-scale-at-requires
+scale-at-requires c κs = search needs
+
+offset-at-requires : tie.Need-offset-at-requires
+offset-at-requires c κs = search needs
+
+is-identity-requires : tie.Need-is-identity-requires
+is-identity-requires c κs = search needs
+
+flush-requires : tie.Need-flush-requires
+flush-requires c κs = search needs
+
+same-length : tie.Need-same-length
+same-length c = search needs
+
+returns : tie.Need-returns
+unfolding postInstr
+returns c = _∙_ {A = Held} (c .before .before .flush .ensures) (sym (chosen-yes {A = Held} _ _ _ (sym (ap isIdentity (same-post (c .before .before .before .before .before .before .before .scale-at .ensures) (c .before .before .before .before .before .before .offset-at .ensures))) ∙ sym (c .before .before .before .before .before .is-identity .ensures) ∙ c .before .before .before .before .if1 .taken)))
+
+put-post-requires : tie.Need-put-post-requires
+put-post-requires c κs = search needs
+
+same-length-2 : tie.Need-same-length-2
+same-length-2 c = search needs
+
+returns-2 : tie.Need-returns-2
+unfolding postInstr
+returns-2 c = _∙_ {A = Held} (c .before .before .put-post .ensures) (sym (chosen-no {A = Held} _ _ _ (sym (ap isIdentity (same-post (c .before .before .before .before .before .before .before .scale-at .ensures) (c .before .before .before .before .before .before .offset-at .ensures))) ∙ sym (c .before .before .before .before .before .is-identity .ensures) ∙ c .before .before .before .before .if1 .left)))
+
+pub post-instr-spec : {M : Type 1} → statement M
+post-instr-spec =
+    tie.close
+    (tie.spec
+    scale-at-requires
+    offset-at-requires
+    is-identity-requires
+    flush-requires
+    same-length
+    returns
+    put-post-requires
+    same-length-2
+    returns-2)

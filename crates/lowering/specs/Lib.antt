@@ -1,0 +1,4 @@
+pub mod Payloads
+pub mod Steps
+pub mod Parts
+pub mod Rules

@@ -1,0 +1,125 @@
+-- The parts that rules are made of, as steps on the builder's state and the workspace's words. Definitions only.
+use mathlib.Core.Bool.{Bool, cond}
+use mathlib.Core.List.{List, [], _∷_}
+use Prim.Native.Nat.{ℕ, _+_, _*_, _-_, _%_, min}
+use lib.Dec.{ltb}
+use lib.ListN.{set}
+use Rattle.numeric.specs.Post.{Post, isIdentity}
+use Rattle.ast.specs.Node.{scaleAt, offsetAt}
+use Rattle.card.specs.Layout.{STORES, PATHS, CALLS, ARGUMENTS}
+use Rattle.pools.specs.Pools.{appendedCount, appendedWords}
+use Rattle.tree.specs.declared.NameRef.{NameRef}
+use Rattle.builder.specs.declared.State.{State}
+use Rattle.interning.specs.declared.Entry.{Entry}
+use Rattle.builder.specs.Steps.{Held, emitted, flushed, put}
+use Rattle.interning.specs.Pools as B
+use Rattle.interning.specs.Pools.{Found, after, high, low}
+use Rattle.builder.specs.Segments.{targeted, aimed, closed}
+use Rattle.lowering.specs.Steps.{set-stores, set-paths, set-calls, set-arguments}
+
+abbrev pub Step : Type 0
+Step = Held → Held
+
+-- a step beside the words
+abbrev pub still : (State → State) → Step
+still f h = (f (h .0), h .1)
+
+-- the first word of an instruction, its sub and B cut to their fields
+abbrev pub front : ℕ → ℕ → ℕ → ℕ
+front op sub b = op * 16777216 + sub % 256 * 65536 + b % 65536
+
+unfoldable pub instr : ℕ → ℕ → ℕ → ℕ → Step
+instr op sub a b = put (front op sub b) a
+
+-- an entry is interned, and f goes on with its index
+abbrev pub going : Found → (ℕ → Step) → Held
+going e f = f (e .0 .index) (e .0 .state, e .1)
+
+abbrev pub withConst : ℕ → (ℕ → Step) → Step
+withConst v f h = going (B.konst v h) f
+
+abbrev pub withHash : ℕ → (ℕ → Step) → Step
+withHash v f h = going (B.hash v h) f
+
+abbrev pub withName : NameRef → (ℕ → Step) → Step
+withName v f h = going (B.name v h) f
+
+abbrev pub withTemp : NameRef → (ℕ → Step) → Step
+withTemp v f h = going (B.temp v h) f
+
+abbrev pub withMember : NameRef → NameRef → (ℕ → Step) → Step
+withMember v l f h = going (B.member v l h) f
+
+-- the post of the node at p
+abbrev pub postBits : List ℕ → ℕ → Post
+postBits t p = record { scale = scaleAt t p; offset = offsetAt t p }
+
+abbrev pub withPost : List ℕ → ℕ → (ℕ → Step) → Step
+withPost t p f h = going (B.post (postBits t p) h) f
+
+-- an instruction with the node's post
+unfoldable pub putPost : List ℕ → ℕ → ℕ → ℕ → ℕ → Step
+putPost t p op sub a = withPost t p λ q. instr op sub a q
+
+-- a Post behind a branch, nothing for the identity
+unfoldable pub postInstr : List ℕ → ℕ → Step
+postInstr t p h = cond (isIdentity (postBits t p)) (flushed h) (putPost t p 34 0 0 h)
+
+-- the place of the next instruction, counted from the segment's start
+abbrev pub place : State → ℕ
+place s = s .top - s .base
+
+-- an instruction whose target is not known yet, and its place
+unfoldable pub guard : ℕ → ℕ → ℕ → Held → Found
+guard op sub b h =
+    let g = flushed h in
+    let r = emitted (front op sub b) 0 g in
+    (record { state = r .0; index = place (g .0) }, r .1)
+
+-- its target is the next instruction
+unfoldable pub land : ℕ → Step
+land at h = (h .0, targeted (h .0) at (place (h .0)) (h .1))
+
+-- Break and Continue wait for their loop; Halt where none is open
+unfoldable pub jumpOut : ℕ → Bool → Step
+jumpOut waits looping h = cond looping (put waits 0 h) (instr 47 0 0 0 h)
+
+-- behind a loop's body: its Breaks and Continues, LoopCheck, LoopEnd, and the target of LoopBegin
+unfoldable pub loopClosed : ℕ → Step
+loopClosed at h =
+    let check = place (h .0) in
+    land at (instr 42 0 0 0 (instr 41 0 (at + 1) 0 (h .0, aimed (h .0) (after at) check (check + 1) (h .1))))
+
+-- behind a ForEach's body: its Breaks and Continues, the Jump back, the target of EachNext, LoopEnd, and the target of EachBegin
+unfoldable pub eachClosed : ℕ → ℕ → Step
+eachClosed begin next h =
+    let back = place (h .0) in
+    land begin (instr 42 0 0 0 (land next (instr 32 0 next 0 (h .0, aimed (h .0) (after next) next (back + 1) (h .1)))))
+
+-- a call takes its number, and places for its arguments' starts
+unfoldable pub callBegun : ℕ → ℕ → ℕ → Held → Found
+callBegun index impl count h =
+    let k = h .0 .calls in
+    let first = h .0 .arguments in (
+      record { state = set-arguments (min (first + count) 65535) (set-calls (appendedCount k 384) (h .0)); index = k },
+      appendedWords k 384 (h .1) (CALLS + 4 * k) (index ∷ impl ∷ count ∷ first ∷ []),
+    )
+
+-- the segment of the argument at that place is finished: its End, its start, and the caller's segment is open again; a Break or Continue that no loop has aimed leads to the start
+unfoldable pub argumentClosed : ℕ → Bool → ℕ → Step
+argumentClosed base waiting slot h =
+    let g = instr 48 0 0 0 h in
+    let r = closed base waiting (g .0, aimed (g .0) 0 0 0 (g .1)) in
+    (r .0, cond (ltb slot 384) (set (r .1) (ARGUMENTS + slot) (g .0 .finished)) (r .1))
+
+-- a hash of a path
+unfoldable pub pathAdded : ℕ → Step
+pathAdded v h =
+    let n = h .0 .paths in
+    (set-paths (appendedCount n 256) (h .0), appendedWords n 256 (h .1) (PATHS + 2 * n) (high v ∷ low v ∷ []))
+
+-- a store: its root's kind and index, the first entry of its path, their count
+unfoldable pub storeAdded : ℕ → ℕ → ℕ → ℕ → Held → Found
+storeAdded kind index first count h =
+    let n = h .0 .stores in
+    (record { state = set-stores (appendedCount n 192) (h .0); index = n }, appendedWords n 192 (h .1) (STORES + 4 * n) (kind ∷ index ∷ first ∷ count ∷ []))

@@ -1,0 +1,263 @@
+// What an assignment stores to: a variable, a temp, or a member path of a root.
+use crate::parts::instr_of;
+use crate::parts::post;
+use crate::steps::flag;
+use crate::steps::not_float_only;
+use builder::State;
+use interning::Entry;
+use program::Flags;
+use tree::Payload;
+ghost use mathlib.Core.Path.{_≡_};
+ghost use mathlib.Core.List.{List};
+ghost use Rattle.builder.specs.Steps.{Held};
+ghost use Rattle.interning.specs.Pools.{Found, after};
+ghost use Rattle.lowering.specs.Parts.{pathAdded, storeAdded};
+ghost use Rattle.lowering.specs.Rules as R;
+
+// Where a member path ends: whether all its links are members, its root, how many links.
+pub struct PathEnd {
+    pub fine: bool,
+    pub root: usize,
+    pub count: u16,
+}
+
+pub(crate) fn rule_at(tree: &[u8], at: usize) -> u8
+    ensures { λ r. ⌜ r ≡ R.rule (now (tree .entry)) at ⌝ }
+{
+    ast::rule(tree::op_at(tree, at))
+}
+
+pub(crate) fn one_more(n: u16) -> u16
+    ensures { λ r. ⌜ r ≡ after n ⌝ }
+{
+    if n < 65535 {
+        return n + 1;
+    }
+    65535
+}
+
+fn no_path() -> PathEnd
+    ensures { λ r. ⌜ r ≡ R.noPath ⌝ }
+{
+    PathEnd {
+        fine: false,
+        root: 0,
+        count: 0,
+    }
+}
+
+fn path_end(tree: &[u8], at: usize, levels: u16) -> PathEnd
+    ensures { λ r. ⌜ r ≡ R.pathEnd (now (tree .entry)) levels at ⌝ }
+{
+    if levels == 0 {
+        return no_path();
+    }
+    if rule_at(tree, at) != 16 {
+        return PathEnd {
+            fine: true,
+            root: at,
+            count: 0,
+        };
+    }
+    let p = tree::payload_at(tree, at);
+    let Payload::Member(_) = p else {
+        return no_path();
+    };
+    if tree::count_at(tree, at) == 0 {
+        return no_path();
+    }
+    let e = path_end(tree, tree::first_at(tree, at), levels - 1);
+    PathEnd {
+        fine: e.fine,
+        root: e.root,
+        count: one_more(e.count),
+    }
+}
+
+fn add_path(ws: &mut [u32], st: State, hash: u64) -> State
+    ensures { λ r. ⌜ _≡_ {A = Held} (r, now (ws .exit)) (pathAdded hash (st, now (ws .entry))) ⌝ }
+{
+    let n = pools::append_pair(
+        ws,
+        13440,
+        256,
+        st.paths,
+        (hash / 4294967296) as u32,
+        (hash % 4294967296) as u32,
+    );
+    let mut s = st;
+    s.paths = n;
+    s
+}
+
+// The path's hashes, from the root outwards.
+fn path_hashes(tree: &[u8], at: usize, ws: &mut [u32], st: State, levels: u16) -> State
+    ensures { λ r. ⌜ _≡_ {A = Held} (r, now (ws .exit)) (R.pathHashes (now (tree .entry)) levels at (st, now (ws .entry))) ⌝ }
+{
+    if levels == 0 {
+        return st;
+    }
+    if rule_at(tree, at) != 16 {
+        return st;
+    }
+    let p = tree::payload_at(tree, at);
+    let Payload::Member(n) = p else {
+        return st;
+    };
+    let s = path_hashes(tree, tree::first_at(tree, at), ws, st, levels - 1);
+    add_path(ws, s, n.hash)
+}
+
+fn add_store(ws: &mut [u32], st: State, kind: u32, index: u16, first: u16, count: u16) -> Entry
+    ensures { λ r. ⌜ _≡_ {A = Found} (r, now (ws .exit)) (storeAdded kind index first count (st, now (ws .entry))) ⌝ }
+{
+    let k = st.stores;
+    let n = pools::append_four(
+        ws,
+        12672,
+        192,
+        k,
+        kind,
+        index as u32,
+        first as u32,
+        count as u32,
+    );
+    let mut s = st;
+    s.stores = n;
+    Entry { state: s, index: k }
+}
+
+// A store to the path at `at` under a root of that kind and index.
+fn store_as(
+    tree: &[u8],
+    at: usize,
+    ws: &mut [u32],
+    st: State,
+    kind: u32,
+    index: u16,
+    levels: u16,
+    count: u16,
+    q: u16,
+) -> State
+    ensures { λ r. ⌜ _≡_ {A = Held} (r, now (ws .exit)) (R.storeAs (now (tree .entry)) kind index levels at count q (st, now (ws .entry))) ⌝ }
+{
+    let first = st.paths;
+    let s = path_hashes(tree, at, ws, st, levels);
+    let e = add_store(ws, s, kind, index, first, count);
+    instr_of(ws, e, 12, 0, q)
+}
+
+fn root_temp(
+    tree: &[u8],
+    root: usize,
+    at: usize,
+    ws: &mut [u32],
+    st: State,
+    levels: u16,
+    count: u16,
+    q: u16,
+) -> State
+    ensures { λ r. ⌜ _≡_ {A = Held} (r, now (ws .exit)) (R.rootTemp (now (tree .entry)) root levels at count q (st, now (ws .entry))) ⌝ }
+{
+    let p = tree::payload_at(tree, root);
+    let Payload::Temp(n) = p else {
+        return store_as(tree, at, ws, st, 2, 0, levels, count, q);
+    };
+    let e = interning::temp(ws, st, n);
+    let s = e.state;
+    store_as(tree, at, ws, s, 1, e.index, levels, count, q)
+}
+
+fn root_var(
+    tree: &[u8],
+    root: usize,
+    at: usize,
+    ws: &mut [u32],
+    st: State,
+    levels: u16,
+    count: u16,
+    q: u16,
+) -> State
+    ensures { λ r. ⌜ _≡_ {A = Held} (r, now (ws .exit)) (R.rootVar (now (tree .entry)) root levels at count q (st, now (ws .entry))) ⌝ }
+{
+    let p = tree::payload_at(tree, root);
+    let Payload::Entity(n) = p else {
+        return root_temp(tree, root, at, ws, st, levels, count, q);
+    };
+    let e = interning::name(ws, st, n);
+    let s = e.state;
+    store_as(tree, at, ws, s, 0, e.index, levels, count, q)
+}
+
+fn store_member(tree: &[u8], at: usize, ws: &mut [u32], st: State, levels: u16, q: u16) -> State
+    ensures { λ r. ⌜ _≡_ {A = Held} (r, now (ws .exit)) (R.storeMember (now (tree .entry)) levels at q (st, now (ws .entry))) ⌝ }
+{
+    if rule_at(tree, at) != 16 {
+        return builder::failed(ws, st, 7);
+    }
+    let e = path_end(tree, at, levels);
+    if e.fine {
+        let s = flag(not_float_only(st), Flags::USES_MEMBERS);
+        return root_var(tree, e.root, at, ws, s, levels, e.count, q);
+    }
+    builder::failed(ws, st, 7)
+}
+
+fn store_temp(tree: &[u8], at: usize, ws: &mut [u32], st: State, levels: u16, q: u16) -> State
+    ensures { λ r. ⌜ _≡_ {A = Held} (r, now (ws .exit)) (R.storeTemp (now (tree .entry)) levels at q (st, now (ws .entry))) ⌝ }
+{
+    let p = tree::payload_at(tree, at);
+    let Payload::Temp(n) = p else {
+        return store_member(tree, at, ws, st, levels, q);
+    };
+    let e = interning::temp(ws, st, n);
+    instr_of(ws, e, 11, 0, q)
+}
+
+fn store_var(tree: &[u8], at: usize, ws: &mut [u32], st: State, levels: u16, q: u16) -> State
+    ensures { λ r. ⌜ _≡_ {A = Held} (r, now (ws .exit)) (R.storeVar (now (tree .entry)) levels at q (st, now (ws .entry))) ⌝ }
+{
+    let p = tree::payload_at(tree, at);
+    let Payload::Entity(n) = p else {
+        return store_temp(tree, at, ws, st, levels, q);
+    };
+    let e = interning::name(ws, st, n);
+    instr_of(ws, e, 10, 0, q)
+}
+
+// A store to the target at `at`, of so many levels, with the post of the node `from`.
+pub(crate) fn store(
+    tree: &[u8],
+    at: usize,
+    from: usize,
+    ws: &mut [u32],
+    st: State,
+    levels: u16,
+) -> State
+    ensures { λ r. ⌜ _≡_ {A = Held} (r, now (ws .exit)) (R.store (now (tree .entry)) levels at from (st, now (ws .entry))) ⌝ }
+{
+    let e = post(tree, from, ws, st);
+    let s = e.state;
+    store_var(tree, at, ws, s, levels, e.index)
+}
+
+// Why the target is refused before anything is lowered: 8 for a Pointer, 7, or 0.
+pub(crate) fn target_refusal(tree: &[u8], at: usize) -> u8
+    ensures { λ r. ⌜ r ≡ R.targetRefusal (now (tree .entry)) at ⌝ }
+{
+    let r = rule_at(tree, at);
+    if r == 16 {
+        return 0;
+    }
+    if r == 13 {
+        return 0;
+    }
+    if r == 34 {
+        return 8;
+    }
+    let p = tree::payload_at(tree, at);
+    let Payload::Temp(_) = p else {
+        return 7;
+    };
+    0
+}

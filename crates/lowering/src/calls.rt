@@ -1,0 +1,68 @@
+// Calls: a call's number and the places of its arguments' starts, an argument's segment, the constants of logic.
+use crate::parts::instr;
+use builder::State;
+use builder::segments;
+use interning::Entry;
+ghost use mathlib.Core.Path.{_≡_};
+ghost use mathlib.Core.List.{List};
+ghost use Prim.Native.Nat.{_+_, min};
+ghost use lib.Dec.{ltb};
+ghost use lib.ListN.{set};
+ghost use mathlib.Core.Bool.{cond};
+ghost use Rattle.builder.specs.Steps.{Held};
+ghost use Rattle.interning.specs.Pools.{Found};
+ghost use Rattle.lowering.specs.Parts.{callBegun, argumentClosed};
+
+fn sum(a: u16, b: u16) -> u16
+    ensures { λ r. ⌜ r ≡ min (a + b) 65535 ⌝ }
+{
+    if b <= 65535 - a {
+        return a + b;
+    }
+    65535
+}
+
+// A call takes its number, and places for its arguments' starts.
+pub(crate) fn begin_call(ws: &mut [u32], st: State, index: u16, impl_idx: u8, count: u16) -> Entry
+    ensures { λ r. ⌜ _≡_ {A = Found} (r, now (ws .exit)) (callBegun index «impl_idx» count (st, now (ws .entry))) ⌝ }
+{
+    let k = st.calls;
+    let first = st.arguments;
+    let n = pools::append_four(
+        ws,
+        13952,
+        384,
+        k,
+        index as u32,
+        impl_idx as u32,
+        count as u32,
+        first as u32,
+    );
+    let mut s = st;
+    s.calls = n;
+    s.arguments = sum(first, count);
+    Entry { state: s, index: k }
+}
+
+fn put_start(ws: &mut [u32], slot: u16, start: u16)
+    ensures { λ _. ⌜ now (ws .exit) ≡ cond (ltb slot 384) (set (now (ws .entry)) (15488 + slot) start) (now (ws .entry)) ⌝ }
+{
+    if slot < 384 {
+        let at = 15488 + (slot as usize);
+        if at < ws.len() {
+            ws[at] = start as u32;
+        }
+    }
+}
+
+// The segment of an argument is finished, and the caller's is open again.
+pub(crate) fn end_argument(ws: &mut [u32], st: State, base: u16, waiting: bool, slot: u16) -> State
+    ensures { λ r. ⌜ _≡_ {A = Held} (r, now (ws .exit)) (argumentClosed base waiting slot (st, now (ws .entry))) ⌝ }
+{
+    let s = instr(ws, st, 48, 0, 0, 0);
+    segments::aim_from(ws, s, 0, 0, 0);
+    let start = s.finished;
+    let e = segments::close_segment(ws, s, base, waiting);
+    put_start(ws, slot, start);
+    e
+}

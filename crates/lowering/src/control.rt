@@ -1,0 +1,97 @@
+// Control: breaks, the ends of loops, a ForEach variable.
+use crate::assign::one_more;
+use crate::parts::instr;
+use crate::parts::land;
+use builder::State;
+use builder::segments;
+use tree::Payload;
+ghost use mathlib.Core.Path.{_≡_};
+ghost use mathlib.Core.List.{List};
+ghost use Prim.Native.Nat.{ℕ};
+ghost use Rattle.builder.specs.Steps.{Held};
+ghost use Rattle.lowering.specs.declared.control.EachVariable.{EachVariable};
+ghost use Rattle.lowering.specs.Parts.{jumpOut, loopClosed, eachClosed};
+ghost use Rattle.lowering.specs.Rules as R;
+
+// A Break or Continue that waits for its loop; Halt where none is open.
+pub(crate) fn jump_out(ws: &mut [u32], st: State, waits: u32, looping: bool) -> State
+    ensures { λ r. ⌜ _≡_ {A = Held} (r, now (ws .exit)) (jumpOut waits looping (st, now (ws .entry))) ⌝ }
+{
+    if looping {
+        return builder::put(ws, st, waits, 0);
+    }
+    instr(ws, st, 47, 0, 0, 0)
+}
+
+// Behind the body of the loop whose LoopBegin stands at `at`.
+pub(crate) fn close_loop(ws: &mut [u32], st: State, at: u16) -> State
+    ensures { λ r. ⌜ _≡_ {A = Held} (r, now (ws .exit)) (loopClosed at (st, now (ws .entry))) ⌝ }
+{
+    let check = segments::place(st);
+    segments::aim_from(ws, st, one_more(at), check as u32, (check as u32) + 1);
+    let s = instr(ws, st, 41, 0, (at as u32) + 1, 0);
+    let e = instr(ws, s, 42, 0, 0, 0);
+    land(ws, e, at)
+}
+
+// Behind the body of the ForEach whose EachBegin and EachNext stand at `begin` and `next`.
+pub(crate) fn close_each(ws: &mut [u32], st: State, begin: u16, next: u16) -> State
+    ensures { λ r. ⌜ _≡_ {A = Held} (r, now (ws .exit)) (eachClosed begin next (st, now (ws .entry))) ⌝ }
+{
+    let back = segments::place(st);
+    segments::aim_from(ws, st, one_more(next), next as u32, (back as u32) + 1);
+    let s = instr(ws, st, 32, 0, next as u32, 0);
+    let t = land(ws, s, next);
+    let e = instr(ws, t, 42, 0, 0, 0);
+    land(ws, e, begin)
+}
+
+// A ForEach variable: the opcode of its EachNext and its index; opcode 0 where it is refused.
+pub struct EachVariable {
+    pub state: State,
+    pub op: u8,
+    pub index: u16,
+}
+
+fn no_variable(ws: &mut [u32], st: State) -> EachVariable
+    ensures { λ r. ⌜ _≡_ {A = EachVariable × List ℕ} (r, now (ws .exit)) (R.noVariable (st, now (ws .entry))) ⌝ }
+{
+    let s = builder::failed(ws, st, 7);
+    EachVariable {
+        state: s,
+        op: 0,
+        index: 0,
+    }
+}
+
+fn variable_temp(tree: &[u8], at: usize, ws: &mut [u32], st: State) -> EachVariable
+    ensures { λ r. ⌜ _≡_ {A = EachVariable × List ℕ} (r, now (ws .exit)) (R.variableTemp (now (tree .entry)) at (st, now (ws .entry))) ⌝ }
+{
+    let p = tree::payload_at(tree, at);
+    let Payload::Temp(n) = p else {
+        return no_variable(ws, st);
+    };
+    let e = interning::temp(ws, st, n);
+    let s = e.state;
+    EachVariable {
+        state: s,
+        op: 45,
+        index: e.index,
+    }
+}
+
+pub(crate) fn variable(tree: &[u8], at: usize, ws: &mut [u32], st: State) -> EachVariable
+    ensures { λ r. ⌜ _≡_ {A = EachVariable × List ℕ} (r, now (ws .exit)) (R.variable (now (tree .entry)) at (st, now (ws .entry))) ⌝ }
+{
+    let p = tree::payload_at(tree, at);
+    let Payload::Entity(n) = p else {
+        return variable_temp(tree, at, ws, st);
+    };
+    let e = interning::name(ws, st, n);
+    let s = e.state;
+    EachVariable {
+        state: s,
+        op: 44,
+        index: e.index,
+    }
+}

@@ -1,0 +1,819 @@
+// The lowering: an expression picks its operator's rule, and that rule reads its operands as expressions; the remaining levels fall.
+mod assign;
+mod calls;
+mod control;
+mod logic;
+mod parts;
+mod steps;
+mod values;
+
+use builder::State;
+use builder::segments;
+use code::segment;
+use depth::Depth;
+use parts::guard;
+use parts::instr;
+use parts::land;
+use parts::post;
+use parts::post_instr;
+use parts::put_post;
+use program::Depths;
+use program::Flags;
+use steps::flag;
+use steps::not_float_only;
+use steps::pop;
+use tree::NameRef;
+use tree::Payload;
+ghost use mathlib.Core.Path.{_≡_};
+ghost use mathlib.Core.List.{List};
+ghost use mathlib.Core.Bool.{false};
+ghost use Prim.Native.Nat.{_-_, _≤_};
+ghost use lib.Dec.{eqb};
+ghost use Rattle.wire.specs.Bytes.{be8};
+ghost use Rattle.ast.specs.Node.{firstAt, countAt};
+ghost use Rattle.program.specs.Image.{bit};
+ghost use Rattle.builder.specs.Steps.{Held};
+ghost use Rattle.lowering.specs.Rules as R;
+
+// The levels of an accepted tree.
+const LEVELS: u16 = 64;
+
+// Where the root node begins.
+const ROOT: usize = 7;
+
+// The tree of an image as the main code, its End, and all that it needs in the workspace.
+pub fn lower(tree: &[u8], ws: &mut [u32]) -> State
+    ensures { λ r. ⌜ _≡_ {A = Held} (r, now (ws .exit)) (R.lowered (now (tree .entry)) (now (ws .entry))) ⌝ }
+{
+    let s = expr(tree, ROOT, ws, start(), false, LEVELS);
+    let e = instr(ws, s, 48, 0, 0, 0);
+    segments::aim_from(ws, e, 0, 0, 0);
+    e
+}
+
+fn nothing_open() -> Depths
+    ensures { λ r. ⌜ r ≡ R.nothingOpen ⌝ }
+{
+    Depths {
+        stack: 0,
+        loops: 0,
+        handlers: 0,
+    }
+}
+
+// Nothing is lowered yet.
+fn start() -> State
+    ensures { λ r. ⌜ r ≡ R.start ⌝ }
+{
+    State {
+        top: 0,
+        base: 0,
+        finished: 0,
+        waiting: false,
+        consts: 0,
+        posts: 0,
+        hashes: 0,
+        names: 0,
+        temps: 0,
+        members: 0,
+        stores: 0,
+        paths: 0,
+        calls: 0,
+        arguments: 0,
+        depth: Depth {
+            now: nothing_open(),
+            max: nothing_open(),
+        },
+        flags: Flags::FLOAT_ONLY,
+        float_loop: true,
+        refusal: 0,
+    }
+}
+
+// A rule without operands, or the refusal of any other.
+fn leaf(tree: &[u8], at: usize, ws: &mut [u32], st: State, looping: bool, rule: u8) -> State
+    ensures { λ r. ⌜ _≡_ {A = Held} (r, now (ws .exit)) (R.leaf (now (tree .entry)) at looping rule (st, now (ws .entry))) ⌝ }
+{
+    match rule {
+        2 => builder::failed(ws, st, 5),
+        3 => builder::failed(ws, st, 5),
+        4 => builder::failed(ws, st, 6),
+        5 => builder::failed(ws, st, 6),
+        6 => builder::failed(ws, st, 6),
+        7 => values::float(tree, at, ws, st),
+        8 => values::string_literal(tree, at, ws, st),
+        9 => values::resource(tree, at, ws, st),
+        10 => values::resource(tree, at, ws, st),
+        11 => values::resource(tree, at, ws, st),
+        12 => put_post(tree, at, ws, st, 4, 0, 0),
+        13 => values::load(tree, at, ws, st),
+        14 => values::load(tree, at, ws, st),
+        15 => values::load(tree, at, ws, st),
+        31 => control::jump_out(ws, st, segment::BREAK, looping),
+        32 => control::jump_out(ws, st, segment::CONTINUE, looping),
+        44 => values::generic_constant(tree, at, ws, st),
+        45 => values::generic_constant(tree, at, ws, st),
+        46 => values::generic_constant(tree, at, ws, st),
+        47 => values::generic_constant(tree, at, ws, st),
+        48 => values::generic_constant(tree, at, ws, st),
+        49 => values::generic_constant(tree, at, ws, st),
+        50 => values::generic_constant(tree, at, ws, st),
+        51 => values::generic_constant(tree, at, ws, st),
+        _ => builder::failed(ws, st, 7),
+    }
+}
+
+// The node at `at` as an expression.
+fn expr(tree: &[u8], at: usize, ws: &mut [u32], st: State, looping: bool, levels: u16) -> State
+    ensures { λ r. ⌜ _≡_ {A = Held} (r, now (ws .exit)) (R.expr (now (tree .entry)) levels at looping (st, now (ws .entry))) ⌝ }
+{
+    if levels == 0 {
+        return builder::failed(ws, st, 7);
+    }
+    let rule = assign::rule_at(tree, at);
+    let n = levels - 1;
+    match rule {
+        1 => element(tree, at, ws, st, looping, n),
+        16 => member(tree, at, ws, st, looping, n),
+        17 => query(tree, at, ws, st, n),
+        18 => compare(tree, at, ws, st, 0, looping, n),
+        19 => compare(tree, at, ws, st, 1, looping, n),
+        20 => compare(tree, at, ws, st, 2, looping, n),
+        21 => compare(tree, at, ws, st, 3, looping, n),
+        22 => equal(tree, at, ws, st, 0, looping, n),
+        23 => equal(tree, at, ws, st, 1, looping, n),
+        24 => logical(tree, at, ws, st, 28, 30, looping, n),
+        25 => logical(tree, at, ws, st, 29, 31, looping, n),
+        26 => coalesce(tree, at, ws, st, looping, n),
+        27 => choose(tree, at, ws, st, looping, n),
+        28 => block(tree, at, ws, st, looping, n),
+        29 => repeat(tree, at, ws, st, looping, n),
+        30 => for_each(tree, at, ws, st, looping, n),
+        33 => assignment(tree, at, ws, st, looping, n),
+        34 => arrow(tree, at, ws, st, looping, n),
+        35 => inner(tree, at, ws, st, looping, n),
+        36 => inner(tree, at, ws, st, looping, n),
+        37 => unary(tree, at, ws, st, 15, looping, n),
+        38 => unary(tree, at, ws, st, 16, looping, n),
+        39 => add(tree, at, ws, st, looping, n),
+        40 => mul(tree, at, ws, st, looping, n),
+        41 => div(tree, at, ws, st, looping, n),
+        42 => math(tree, at, ws, st, 0, looping, n),
+        43 => math(tree, at, ws, st, 1536, looping, n),
+        _ => leaf(tree, at, ws, st, looping, rule),
+    }
+}
+
+// ---- values
+
+// array_element in the Rust: an element of an array variable.
+fn element(tree: &[u8], at: usize, ws: &mut [u32], st: State, looping: bool, levels: u16) -> State
+    ensures { λ r. ⌜ _≡_ {A = Held} (r, now (ws .exit)) (R.under (now (tree .entry)) levels (R.arrayElement (now (tree .entry))) at looping (st, now (ws .entry))) ⌝ }
+{
+    if wire::get_u8(tree, 0, 5) != 1 {
+        return builder::failed(ws, st, 5);
+    }
+    if tree::count_at(tree, at) != 1 {
+        return builder::failed(ws, st, 7);
+    }
+    let p = tree::payload_at(tree, at);
+    let Payload::ArrayVariable(n) = p else {
+        return builder::failed(ws, st, 7);
+    };
+    let s = not_float_only(st);
+    let t = expr(tree, tree::first_at(tree, at), ws, s, looping, levels);
+    values::array_put(tree, at, ws, t, n)
+}
+
+// The node at `at` as the base of a member path whose last member is `last`.
+fn chain(
+    tree: &[u8],
+    at: usize,
+    ws: &mut [u32],
+    st: State,
+    last: NameRef,
+    looping: bool,
+    levels: u16,
+) -> State
+    ensures { λ r. ⌜ _≡_ {A = Held} (r, now (ws .exit)) (R.chain (now (tree .entry)) levels at last looping (st, now (ws .entry))) ⌝ }
+{
+    if levels == 0 {
+        return builder::failed(ws, st, 7);
+    }
+    if assign::rule_at(tree, at) != 16 {
+        return expr(tree, at, ws, st, looping, levels);
+    }
+    if tree::count_at(tree, at) == 0 {
+        return builder::failed(ws, st, 7);
+    }
+    let s = chain(
+        tree,
+        tree::first_at(tree, at),
+        ws,
+        st,
+        last,
+        looping,
+        levels - 1,
+    );
+    values::member_put(tree, at, ws, s, last)
+}
+
+// member_read in the Rust: a member of the value of a base.
+fn member(tree: &[u8], at: usize, ws: &mut [u32], st: State, looping: bool, levels: u16) -> State
+    ensures { λ r. ⌜ _≡_ {A = Held} (r, now (ws .exit)) (R.under (now (tree .entry)) levels (R.memberRead (now (tree .entry))) at looping (st, now (ws .entry))) ⌝ }
+{
+    let s = flag(not_float_only(st), Flags::USES_MEMBERS);
+    let p = tree::payload_at(tree, at);
+    let Payload::Member(last) = p else {
+        return builder::failed(ws, s, 7);
+    };
+    if tree::count_at(tree, at) == 0 {
+        return builder::failed(ws, s, 7);
+    }
+    let t = chain(tree, tree::first_at(tree, at), ws, s, last, looping, levels);
+    values::member_put(tree, at, ws, t, last)
+}
+
+fn assignment(
+    tree: &[u8],
+    at: usize,
+    ws: &mut [u32],
+    st: State,
+    looping: bool,
+    levels: u16,
+) -> State
+    ensures { λ r. ⌜ _≡_ {A = Held} (r, now (ws .exit)) (R.under (now (tree .entry)) levels (R.assignment (now (tree .entry))) levels at looping (st, now (ws .entry))) ⌝ }
+{
+    let count = tree::count_at(tree, at);
+    if count == 0 {
+        return builder::failed(ws, st, 7);
+    }
+    let target = tree::first_at(tree, at);
+    let refused = assign::target_refusal(tree, target);
+    if refused != 0 {
+        return builder::failed(ws, st, refused);
+    }
+    let s = flag(st, Flags::HAS_ASSIGNMENT);
+    let t = value(tree, at, target, ws, s, looping, levels);
+    assign::store(tree, target, at, ws, t, levels)
+}
+
+// The second child, or the node's constant.
+fn value(
+    tree: &[u8],
+    at: usize,
+    first: usize,
+    ws: &mut [u32],
+    st: State,
+    looping: bool,
+    levels: u16,
+) -> State
+    ensures { λ r. ⌜ _≡_ {A = Held} (r, now (ws .exit)) (R.under (now (tree .entry)) levels (R.value (now (tree .entry))) at first looping (st, now (ws .entry))) ⌝ }
+{
+    if tree::count_at(tree, at) == 1 {
+        let p = tree::payload_at(tree, at);
+        return interning::constant(ws, st, values::constant_bits(p));
+    }
+    expr(tree, tree::next_at(tree, first), ws, st, looping, levels)
+}
+
+// ---- logic
+
+// a, Push, b: the operands of every binary instruction but the division.
+fn binary(tree: &[u8], a: usize, ws: &mut [u32], st: State, looping: bool, levels: u16) -> State
+    ensures { λ r. ⌜ _≡_ {A = Held} (r, now (ws .exit)) (R.under (now (tree .entry)) levels (R.binary (now (tree .entry))) a looping (st, now (ws .entry))) ⌝ }
+{
+    let s = expr(tree, a, ws, st, looping, levels);
+    let t = builder::push(s);
+    expr(tree, tree::next_at(tree, a), ws, t, looping, levels)
+}
+
+fn compare(
+    tree: &[u8],
+    at: usize,
+    ws: &mut [u32],
+    st: State,
+    o: u8,
+    looping: bool,
+    levels: u16,
+) -> State
+    ensures { λ r. ⌜ _≡_ {A = Held} (r, now (ws .exit)) (R.under (now (tree .entry)) levels (R.compare (now (tree .entry))) o at looping (st, now (ws .entry))) ⌝ }
+{
+    let count = tree::count_at(tree, at);
+    if count == 0 {
+        return builder::failed(ws, st, 7);
+    }
+    let e = post(tree, at, ws, st);
+    let s = e.state;
+    let q = e.index;
+    let a = tree::first_at(tree, at);
+    if count == 1 {
+        let t = expr(tree, a, ws, s, looping, levels);
+        return logic::compare_const(tree, at, ws, t, o, q);
+    }
+    let t = binary(tree, a, ws, s, looping, levels);
+    let u = instr(ws, t, 23, o, 0, q);
+    pop(u, 1)
+}
+
+fn equal(
+    tree: &[u8],
+    at: usize,
+    ws: &mut [u32],
+    st: State,
+    o: u8,
+    looping: bool,
+    levels: u16,
+) -> State
+    ensures { λ r. ⌜ _≡_ {A = Held} (r, now (ws .exit)) (R.under (now (tree .entry)) levels (R.equal (now (tree .entry))) o at looping (st, now (ws .entry))) ⌝ }
+{
+    let count = tree::count_at(tree, at);
+    if count == 0 {
+        return builder::failed(ws, st, 7);
+    }
+    let e = post(tree, at, ws, st);
+    let s = e.state;
+    let q = e.index;
+    let a = tree::first_at(tree, at);
+    if count == 1 {
+        let t = expr(tree, a, ws, s, looping, levels);
+        return logic::equal_const(tree, at, ws, t, o, q);
+    }
+    let t = binary(tree, a, ws, s, looping, levels);
+    let u = instr(ws, t, 25, o, 0, q);
+    pop(u, 1)
+}
+
+// logic in the Rust: `&&` and `||`; every operand but the last can lead behind the last.
+fn logical(
+    tree: &[u8],
+    at: usize,
+    ws: &mut [u32],
+    st: State,
+    step: u8,
+    last: u8,
+    looping: bool,
+    levels: u16,
+) -> State
+    ensures { λ r. ⌜ _≡_ {A = Held} (r, now (ws .exit)) (R.under (now (tree .entry)) levels (R.logical (now (tree .entry))) step last at looping (st, now (ws .entry))) ⌝ }
+{
+    let count = tree::count_at(tree, at);
+    if count == 0 {
+        return builder::failed(ws, st, 7);
+    }
+    let e = post(tree, at, ws, st);
+    let s = e.state;
+    let q = e.index;
+    join(
+        tree,
+        tree::first_at(tree, at),
+        ws,
+        s,
+        step,
+        last,
+        q,
+        count - 1,
+        looping,
+        levels,
+    )
+}
+
+// `m` steps and the last operand, from the operand at `a` on; every step leads behind the last.
+fn join(
+    tree: &[u8],
+    a: usize,
+    ws: &mut [u32],
+    st: State,
+    step: u8,
+    last: u8,
+    q: u16,
+    m: u16,
+    looping: bool,
+    levels: u16,
+) -> State
+    ensures { λ r. ⌜ _≡_ {A = Held} (r, now (ws .exit)) (R.under (now (tree .entry)) levels (R.junction (now (tree .entry))) step last q m a looping (st, now (ws .entry))) ⌝ }
+{
+    let s = expr(tree, a, ws, st, looping, levels);
+    if m == 0 {
+        return instr(ws, s, last, 0, 0, q);
+    }
+    let e = guard(ws, s, step, 0, q);
+    let t = e.state;
+    let u = join(
+        tree,
+        tree::next_at(tree, a),
+        ws,
+        t,
+        step,
+        last,
+        q,
+        m - 1,
+        looping,
+        levels,
+    );
+    land(ws, u, e.index)
+}
+
+// ---- arithmetic
+
+// Brackets: the first child.
+fn inner(tree: &[u8], at: usize, ws: &mut [u32], st: State, looping: bool, levels: u16) -> State
+    ensures { λ r. ⌜ _≡_ {A = Held} (r, now (ws .exit)) (R.under (now (tree .entry)) levels (R.bracket (now (tree .entry))) at looping (st, now (ws .entry))) ⌝ }
+{
+    if tree::count_at(tree, at) == 0 {
+        return builder::failed(ws, st, 7);
+    }
+    expr(tree, tree::first_at(tree, at), ws, st, looping, levels)
+}
+
+fn unary(
+    tree: &[u8],
+    at: usize,
+    ws: &mut [u32],
+    st: State,
+    op: u8,
+    looping: bool,
+    levels: u16,
+) -> State
+    ensures { λ r. ⌜ _≡_ {A = Held} (r, now (ws .exit)) (R.under (now (tree .entry)) levels (R.unary (now (tree .entry))) op at looping (st, now (ws .entry))) ⌝ }
+{
+    if tree::count_at(tree, at) == 0 {
+        return builder::failed(ws, st, 7);
+    }
+    let s = expr(tree, tree::first_at(tree, at), ws, st, looping, levels);
+    put_post(tree, at, ws, s, op, 0, 0)
+}
+
+// The n-ary +: the first term pushed, every further one added to it, the last with the post.
+fn add(tree: &[u8], at: usize, ws: &mut [u32], st: State, looping: bool, levels: u16) -> State
+    ensures { λ r. ⌜ _≡_ {A = Held} (r, now (ws .exit)) (R.under (now (tree .entry)) levels (R.add (now (tree .entry))) at looping (st, now (ws .entry))) ⌝ }
+{
+    let count = tree::count_at(tree, at);
+    if count == 0 {
+        return builder::failed(ws, st, 7);
+    }
+    let first = tree::first_at(tree, at);
+    let s = expr(tree, first, ws, st, looping, levels);
+    if count == 1 {
+        return post_instr(tree, at, ws, s);
+    }
+    let t = builder::push(s);
+    let u = terms(
+        tree,
+        at,
+        ws,
+        t,
+        tree::next_at(tree, first),
+        count - 2,
+        looping,
+        levels,
+    );
+    pop(u, 1)
+}
+
+// `m` terms and the last, from the term at `a` on.
+fn terms(
+    tree: &[u8],
+    at: usize,
+    ws: &mut [u32],
+    st: State,
+    a: usize,
+    m: u16,
+    looping: bool,
+    levels: u16,
+) -> State
+    ensures { λ r. ⌜ _≡_ {A = Held} (r, now (ws .exit)) (R.under (now (tree .entry)) levels (R.addition (now (tree .entry))) at m a looping (st, now (ws .entry))) ⌝ }
+{
+    let mut s = st;
+    let mut term = a;
+    let mut left = m;
+    while left > 0 {
+        let t = expr(tree, term, ws, s, looping, levels);
+        s = instr(ws, t, 17, 0, 0, 0);
+        term = tree::next_at(tree, term);
+        left -= 1;
+    }
+    let t = expr(tree, term, ws, s, looping, levels);
+    put_post(tree, at, ws, t, 18, 0, 0)
+}
+
+fn mul(tree: &[u8], at: usize, ws: &mut [u32], st: State, looping: bool, levels: u16) -> State
+    ensures { λ r. ⌜ _≡_ {A = Held} (r, now (ws .exit)) (R.under (now (tree .entry)) levels (R.mul (now (tree .entry))) at looping (st, now (ws .entry))) ⌝ }
+{
+    if tree::count_at(tree, at) < 2 {
+        return builder::failed(ws, st, 7);
+    }
+    let s = binary(tree, tree::first_at(tree, at), ws, st, looping, levels);
+    let t = put_post(tree, at, ws, s, 19, 0, 0);
+    pop(t, 1)
+}
+
+fn divisor(tree: &[u8]) -> u8
+    ensures { λ r. ⌜ r ≡ bit (eqb (be8 (now (tree .entry)) 0 6) 1) ⌝ }
+{
+    if wire::get_u8(tree, 0, 6) == 1 {
+        return 1;
+    }
+    0
+}
+
+// The second child first; its guard pushes the divisor.
+fn div(tree: &[u8], at: usize, ws: &mut [u32], st: State, looping: bool, levels: u16) -> State
+    ensures { λ r. ⌜ _≡_ {A = Held} (r, now (ws .exit)) (R.under (now (tree .entry)) levels (R.div (now (tree .entry))) at looping (st, now (ws .entry))) ⌝ }
+{
+    if tree::count_at(tree, at) < 2 {
+        return builder::failed(ws, st, 7);
+    }
+    let a = tree::first_at(tree, at);
+    let s = expr(tree, tree::next_at(tree, a), ws, st, looping, levels);
+    let e = guard(ws, s, 20, divisor(tree), 0);
+    let g = e.state;
+    let t = steps::operand(g);
+    let u = expr(tree, a, ws, t, looping, levels);
+    let v = put_post(tree, at, ws, u, 21, 0, 0);
+    let w = pop(v, 1);
+    land(ws, w, e.index)
+}
+
+// host_math in the Rust: every argument but the last pushed, in order.
+fn math(
+    tree: &[u8],
+    at: usize,
+    ws: &mut [u32],
+    st: State,
+    bits: u16,
+    looping: bool,
+    levels: u16,
+) -> State
+    ensures { λ r. ⌜ _≡_ {A = Held} (r, now (ws .exit)) (R.under (now (tree .entry)) levels (R.hostMath (now (tree .entry))) bits at looping (st, now (ws .entry))) ⌝ }
+{
+    let s = flag(st, bits);
+    let p = tree::payload_at(tree, at);
+    let Payload::HostMath(f) = p else {
+        return builder::failed(ws, s, 7);
+    };
+    let count = tree::count_at(tree, at);
+    if count == 0 {
+        return builder::failed(ws, s, 7);
+    }
+    if count > 255 {
+        return builder::failed(ws, s, 7);
+    }
+    let t = hosted(tree, at, ws, s, f, count as u8, count - 1, looping, levels);
+    pop(t, count - 1)
+}
+
+// `m` arguments and the last of `k`, from the first on.
+fn hosted(
+    tree: &[u8],
+    at: usize,
+    ws: &mut [u32],
+    st: State,
+    f: u16,
+    k: u8,
+    m: u16,
+    looping: bool,
+    levels: u16,
+) -> State
+    ensures { λ r. ⌜ _≡_ {A = Held} (r, now (ws .exit)) (R.under (now (tree .entry)) levels (R.hosted (now (tree .entry))) at f k m (firstAt (now (tree .entry)) at) looping (st, now (ws .entry))) ⌝ }
+{
+    let mut s = st;
+    let mut argument = tree::first_at(tree, at);
+    let mut left = m;
+    while left > 0 {
+        let t = expr(tree, argument, ws, s, looping, levels);
+        s = builder::push(t);
+        argument = tree::next_at(tree, argument);
+        left -= 1;
+    }
+    let t = expr(tree, argument, ws, s, looping, levels);
+    put_post(tree, at, ws, t, 22, k, f as u32)
+}
+
+// ---- calls
+
+// pointer in the Rust: the second child between PointerEnter, behind the first, and PointerLeave.
+fn arrow(tree: &[u8], at: usize, ws: &mut [u32], st: State, looping: bool, levels: u16) -> State
+    ensures { λ r. ⌜ _≡_ {A = Held} (r, now (ws .exit)) (R.under (now (tree .entry)) levels (R.pointer (now (tree .entry))) at looping (st, now (ws .entry))) ⌝ }
+{
+    let s = flag(not_float_only(st), Flags::USES_ARROW);
+    if tree::count_at(tree, at) < 2 {
+        return builder::failed(ws, s, 7);
+    }
+    let p = post(tree, at, ws, s);
+    let x = p.state;
+    let q = p.index;
+    let a = tree::first_at(tree, at);
+    let t = expr(tree, a, ws, x, looping, levels);
+    let e = guard(ws, t, 37, 0, q);
+    let g = e.state;
+    let u = expr(tree, tree::next_at(tree, a), ws, g, looping, levels);
+    let v = instr(ws, u, 38, 0, 0, q);
+    land(ws, v, e.index)
+}
+
+fn query(tree: &[u8], at: usize, ws: &mut [u32], st: State, levels: u16) -> State
+    ensures { λ r. ⌜ _≡_ {A = Held} (r, now (ws .exit)) (R.under (now (tree .entry)) levels (R.query (now (tree .entry))) at (st, now (ws .entry))) ⌝ }
+{
+    let p = tree::payload_at(tree, at);
+    let Payload::Query(q) = p else {
+        return builder::failed(ws, st, 7);
+    };
+    let count = tree::count_at(tree, at);
+    let s = steps::query_flags(st, count == 0);
+    let first = s.arguments;
+    let e = calls::begin_call(ws, s, q.index, q.impl_idx, count);
+    let g = e.state;
+    let t = passed(tree, ws, g, tree::first_at(tree, at), count, first, levels);
+    put_post(tree, at, ws, t, 39, 0, e.index as u32)
+}
+
+// Each argument is a segment of its own, without loops; its start goes to its slot.
+fn passed(
+    tree: &[u8],
+    ws: &mut [u32],
+    st: State,
+    a: usize,
+    m: u16,
+    first: u16,
+    levels: u16,
+) -> State
+    ensures { λ r. ⌜ _≡_ {A = Held} (r, now (ws .exit)) (R.under (now (tree .entry)) levels (R.arguments (now (tree .entry))) (st .base) (st .waiting) m a first (st, now (ws .entry))) ⌝ }
+{
+    let base = st.base;
+    let waiting = st.waiting;
+    let mut s = st;
+    let mut argument = a;
+    let mut left = m;
+    let mut slot = first;
+    while left > 0 {
+        let t = segments::open_segment(s);
+        let u = expr(tree, argument, ws, t, false, levels);
+        s = calls::end_argument(ws, u, base, waiting, slot);
+        argument = tree::next_at(tree, argument);
+        slot = assign::one_more(slot);
+        left -= 1;
+    }
+    s
+}
+
+// ---- control
+
+fn coalesce(tree: &[u8], at: usize, ws: &mut [u32], st: State, looping: bool, levels: u16) -> State
+    ensures { λ r. ⌜ _≡_ {A = Held} (r, now (ws .exit)) (R.under (now (tree .entry)) levels (R.coalesce (now (tree .entry))) at looping (st, now (ws .entry))) ⌝ }
+{
+    if tree::count_at(tree, at) < 2 {
+        return builder::failed(ws, st, 7);
+    }
+    let a = tree::first_at(tree, at);
+    let e = guard(ws, st, 35, 0, 0);
+    let g = e.state;
+    let s = steps::enter_handler(g);
+    let t = expr(tree, a, ws, s, looping, levels);
+    let u = steps::leave_handler(t);
+    let f = guard(ws, u, 36, 0, 0);
+    let i = f.state;
+    let v = land(ws, i, e.index);
+    let w = expr(tree, tree::next_at(tree, a), ws, v, looping, levels);
+    let x = land(ws, w, f.index);
+    post_instr(tree, at, ws, x)
+}
+
+// The third child, or 0.0.
+fn other(
+    tree: &[u8],
+    at: usize,
+    second: usize,
+    ws: &mut [u32],
+    st: State,
+    looping: bool,
+    levels: u16,
+) -> State
+    ensures { λ r. ⌜ _≡_ {A = Held} (r, now (ws .exit)) (R.under (now (tree .entry)) levels (R.otherwise (now (tree .entry))) at second looping (st, now (ws .entry))) ⌝ }
+{
+    if tree::count_at(tree, at) < 3 {
+        return interning::constant(ws, st, 0);
+    }
+    expr(tree, tree::next_at(tree, second), ws, st, looping, levels)
+}
+
+// conditional in the Rust: the second child, or the third.
+fn choose(tree: &[u8], at: usize, ws: &mut [u32], st: State, looping: bool, levels: u16) -> State
+    ensures { λ r. ⌜ _≡_ {A = Held} (r, now (ws .exit)) (R.under (now (tree .entry)) levels (R.conditional (now (tree .entry))) at looping (st, now (ws .entry))) ⌝ }
+{
+    if tree::count_at(tree, at) < 2 {
+        return builder::failed(ws, st, 7);
+    }
+    let a = tree::first_at(tree, at);
+    let b = tree::next_at(tree, a);
+    let s = expr(tree, a, ws, st, looping, levels);
+    let e = guard(ws, s, 33, 0, 0);
+    let g = e.state;
+    let t = expr(tree, b, ws, g, looping, levels);
+    let f = guard(ws, t, 32, 0, 0);
+    let i = f.state;
+    let u = land(ws, i, e.index);
+    let v = other(tree, at, b, ws, u, looping, levels);
+    let w = land(ws, v, f.index);
+    post_instr(tree, at, ws, w)
+}
+
+// statements in the Rust: each statement, and the constant of the list behind the last.
+fn block(tree: &[u8], at: usize, ws: &mut [u32], st: State, looping: bool, levels: u16) -> State
+    ensures { λ r. ⌜ _≡_ {A = Held} (r, now (ws .exit)) (R.under (now (tree .entry)) levels (R.statements (now (tree .entry))) at looping (st, now (ws .entry))) ⌝ }
+{
+    let mut s = st;
+    let mut child = tree::first_at(tree, at);
+    let mut left = tree::count_at(tree, at);
+    while left > 0 {
+        s = item(tree, child, ws, s, looping, levels);
+        child = tree::next_at(tree, child);
+        left -= 1;
+    }
+    interning::constant(ws, s, values::list_constant(tree, at))
+}
+
+// A statement of a list: only here is a Return one, elsewhere it is a constant.
+fn item(tree: &[u8], at: usize, ws: &mut [u32], st: State, looping: bool, levels: u16) -> State
+    ensures { λ r. ⌜ _≡_ {A = Held} (r, now (ws .exit)) (R.under (now (tree .entry)) levels (R.statement (now (tree .entry))) at looping (st, now (ws .entry))) ⌝ }
+{
+    if assign::rule_at(tree, at) == 44 {
+        return ret(tree, at, ws, st, looping, levels);
+    }
+    expr(tree, at, ws, st, looping, levels)
+}
+
+// A Return of a statement list.
+fn ret(tree: &[u8], at: usize, ws: &mut [u32], st: State, looping: bool, levels: u16) -> State
+    ensures { λ r. ⌜ _≡_ {A = Held} (r, now (ws .exit)) (R.returned (now (tree .entry)) levels at looping (st, now (ws .entry))) ⌝ }
+{
+    if levels == 0 {
+        return builder::failed(ws, st, 7);
+    }
+    if tree::count_at(tree, at) == 0 {
+        let s = interning::constant(ws, st, 0);
+        return put_post(tree, at, ws, s, 46, 0, 0);
+    }
+    let s = expr(tree, tree::first_at(tree, at), ws, st, looping, levels - 1);
+    put_post(tree, at, ws, s, 46, 0, 0)
+}
+
+// counted_loop in the Rust: the count, and the body so often.
+fn repeat(tree: &[u8], at: usize, ws: &mut [u32], st: State, looping: bool, levels: u16) -> State
+    ensures { λ r. ⌜ _≡_ {A = Held} (r, now (ws .exit)) (R.under (now (tree .entry)) levels (R.countedLoop (now (tree .entry))) at looping (st, now (ws .entry))) ⌝ }
+{
+    let s = flag(st, Flags::HAS_LOOPS);
+    if tree::count_at(tree, at) < 2 {
+        return builder::failed(ws, s, 7);
+    }
+    let a = tree::first_at(tree, at);
+    let t = expr(tree, a, ws, s, looping, levels);
+    let e = guard(ws, t, 40, 0, 0);
+    let g = e.state;
+    let u = steps::enter_loop(steps::operand(g));
+    let v = expr(tree, tree::next_at(tree, a), ws, u, true, levels);
+    let w = control::close_loop(ws, v, e.index);
+    let x = steps::leave_loop(pop(w, 1));
+    interning::constant(ws, x, values::folded(tree, at, 0))
+}
+
+fn for_each(tree: &[u8], at: usize, ws: &mut [u32], st: State, looping: bool, levels: u16) -> State
+    ensures { λ r. ⌜ _≡_ {A = Held} (r, now (ws .exit)) (R.under (now (tree .entry)) levels (R.forEach (now (tree .entry))) at looping (st, now (ws .entry))) ⌝ }
+{
+    let s = not_float_only(flag(st, Flags::HAS_LOOPS));
+    if tree::count_at(tree, at) < 3 {
+        return builder::failed(ws, s, 7);
+    }
+    let v = control::variable(tree, tree::first_at(tree, at), ws, s);
+    let t = v.state;
+    if v.op == 0 {
+        return t;
+    }
+    each(tree, at, ws, t, v.op, v.index, looping, levels)
+}
+
+// Behind a ForEach's variable: the array, and the body once for each element.
+fn each(
+    tree: &[u8],
+    at: usize,
+    ws: &mut [u32],
+    st: State,
+    op: u8,
+    k: u16,
+    looping: bool,
+    levels: u16,
+) -> State
+    ensures { λ r. ⌜ _≡_ {A = Held} (r, now (ws .exit)) (R.under (now (tree .entry)) levels (R.each (now (tree .entry))) at op k looping (st, now (ws .entry))) ⌝ }
+{
+    let b = tree::next_at(tree, tree::first_at(tree, at));
+    let s = expr(tree, b, ws, st, looping, levels);
+    let e = guard(ws, s, 43, 0, 0);
+    let g = e.state;
+    let f = guard(ws, g, op, 0, k);
+    let i = f.state;
+    let t = steps::enter_loop(i);
+    let u = expr(tree, tree::next_at(tree, b), ws, t, true, levels);
+    let v = control::close_each(ws, u, e.index, f.index);
+    let w = steps::leave_loop(v);
+    interning::constant(ws, w, values::folded(tree, at, 0))
+}

@@ -1,0 +1,103 @@
+// Parts of rules: an instruction, the node's post, an instruction whose target comes later.
+use builder::State;
+use interning::Entry;
+use numeric::PostBits;
+ghost use mathlib.Core.Path.{_≡_};
+ghost use mathlib.Core.List.{List};
+ghost use Rattle.builder.specs.Steps.{Held};
+ghost use Rattle.interning.specs.Pools as B;
+ghost use Rattle.interning.specs.Pools.{Found};
+ghost use Rattle.lowering.specs.Parts.{front, instr, going, postBits, putPost, postInstr, guard, land};
+
+fn front(op: u8, sub: u8, b: u16) -> u32
+    ensures { λ r. ⌜ r ≡ front op sub b ⌝ }
+{
+    (op as u32) * 16777216 + (sub as u32) * 65536 + (b as u32)
+}
+
+// An instruction of these fields; a Push that waits comes first.
+pub(crate) fn instr(ws: &mut [u32], st: State, op: u8, sub: u8, a: u32, b: u16) -> State
+    ensures { λ r. ⌜ _≡_ {A = Held} (r, now (ws .exit)) (instr op sub a b (st, now (ws .entry))) ⌝ }
+{
+    builder::put(ws, st, front(op, sub, b), a)
+}
+
+// An instruction whose A is an entry's index.
+pub(crate) fn instr_of(ws: &mut [u32], e: Entry, op: u8, sub: u8, b: u16) -> State
+    ensures { λ r. ⌜ _≡_ {A = Held} (r, now (ws .exit)) (going (e, now (ws .entry)) (λ k. instr op sub k b)) ⌝ }
+{
+    let s = e.state;
+    instr(ws, s, op, sub, e.index as u32, b)
+}
+
+// The slot of the node's post.
+pub(crate) fn post(tree: &[u8], at: usize, ws: &mut [u32], st: State) -> Entry
+    ensures { λ r. ⌜ _≡_ {A = Found} (r, now (ws .exit)) (B.post (postBits (now (tree .entry)) at) (st, now (ws .entry))) ⌝ }
+{
+    let p = PostBits {
+        scale: tree::scale_at(tree, at),
+        offset: tree::offset_at(tree, at),
+    };
+    interning::post_of(ws, st, p)
+}
+
+// An instruction with the node's post.
+pub(crate) fn put_post(
+    tree: &[u8],
+    at: usize,
+    ws: &mut [u32],
+    st: State,
+    op: u8,
+    sub: u8,
+    a: u32,
+) -> State
+    ensures { λ r. ⌜ _≡_ {A = Held} (r, now (ws .exit)) (putPost (now (tree .entry)) at op sub a (st, now (ws .entry))) ⌝ }
+{
+    let e = post(tree, at, ws, st);
+    let s = e.state;
+    instr(ws, s, op, sub, a, e.index)
+}
+
+// The same, where A is an entry's index.
+pub(crate) fn put_post_of(tree: &[u8], at: usize, ws: &mut [u32], e: Entry, op: u8) -> State
+    ensures { λ r. ⌜ _≡_ {A = Held} (r, now (ws .exit)) (going (e, now (ws .entry)) (λ k. putPost (now (tree .entry)) at op 0 k)) ⌝ }
+{
+    let s = e.state;
+    put_post(tree, at, ws, s, op, 0, e.index as u32)
+}
+
+// A Post behind a branch; nothing for the identity.
+pub(crate) fn post_instr(tree: &[u8], at: usize, ws: &mut [u32], st: State) -> State
+    ensures { λ r. ⌜ _≡_ {A = Held} (r, now (ws .exit)) (postInstr (now (tree .entry)) at (st, now (ws .entry))) ⌝ }
+{
+    let p = PostBits {
+        scale: tree::scale_at(tree, at),
+        offset: tree::offset_at(tree, at),
+    };
+    if numeric::is_identity(p) {
+        return builder::flush(ws, st);
+    }
+    put_post(tree, at, ws, st, 34, 0, 0)
+}
+
+// An instruction whose target is not known yet, and its place in the open segment.
+pub(crate) fn guard(ws: &mut [u32], st: State, op: u8, sub: u8, b: u16) -> Entry
+    ensures { λ r. ⌜ _≡_ {A = Found} (r, now (ws .exit)) (guard op sub b (st, now (ws .entry))) ⌝ }
+{
+    let s = builder::flush(ws, st);
+    let at = builder::segments::place(s);
+    let e = builder::emit(ws, s, front(op, sub, b), 0);
+    Entry {
+        state: e,
+        index: at,
+    }
+}
+
+// The target of the instruction at that place is the next one.
+pub(crate) fn land(ws: &mut [u32], st: State, at: u16) -> State
+    ensures { λ r. ⌜ _≡_ {A = Held} (r, now (ws .exit)) (land at (st, now (ws .entry))) ⌝ }
+{
+    let to = builder::segments::place(st);
+    builder::segments::set_target(ws, st, at, to as u32);
+    st
+}

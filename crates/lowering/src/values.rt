@@ -1,0 +1,188 @@
+// Values: constants, strings, resources, loads, members, and what an assignment stores to.
+use crate::parts::instr_of;
+use crate::parts::post;
+use crate::parts::put_post_of;
+use crate::steps::flag;
+use crate::steps::not_float_only;
+use builder::State;
+use numeric::PostBits;
+use program::Flags;
+use tree::NameRef;
+use tree::Payload;
+ghost use mathlib.Core.Path.{_≡_};
+ghost use mathlib.Core.List.{List};
+ghost use Prim.Native.Nat.{_%_};
+ghost use Rattle.numeric.specs.Post.{fold};
+ghost use Rattle.ast.specs.Node.{offsetAt};
+ghost use Rattle.tree.specs.Payloads.{payloadRefAt};
+ghost use Rattle.builder.specs.Steps.{Held};
+ghost use Rattle.interning.specs.Pools.{constant};
+ghost use Rattle.lowering.specs.Payloads.{floatOf, constOf, stringOf, resourceOf};
+ghost use Rattle.lowering.specs.Parts.{postBits};
+ghost use Rattle.lowering.specs.Rules as R;
+
+// ---- what a payload reads as
+
+pub(crate) fn float_bits(p: Payload) -> u32
+    ensures { λ r. ⌜ r ≡ floatOf p ⌝ }
+{
+    let Payload::Float(b) = p else {
+        return 0;
+    };
+    b
+}
+
+fn low_bits(h: u64) -> u32
+    ensures { λ r. ⌜ r ≡ h % 4294967296 ⌝ }
+{
+    (h % 4294967296) as u32
+}
+
+// A float, or the low 32 bits of a hash.
+pub(crate) fn constant_bits(p: Payload) -> u32
+    ensures { λ r. ⌜ r ≡ constOf p ⌝ }
+{
+    let Payload::Hash(h) = p else {
+        return float_bits(p);
+    };
+    low_bits(h)
+}
+
+fn string_hash(p: Payload) -> u64
+    ensures { λ r. ⌜ r ≡ stringOf p ⌝ }
+{
+    let Payload::Hash(h) = p else {
+        return 0;
+    };
+    h
+}
+
+fn resource_hash(p: Payload) -> u64
+    ensures { λ r. ⌜ r ≡ resourceOf p ⌝ }
+{
+    match p {
+        Payload::Geometry(n) => n.hash,
+        Payload::Material(n) => n.hash,
+        Payload::Texture(n) => n.hash,
+        _ => 0,
+    }
+}
+
+// The node's post folded into a constant.
+pub(crate) fn folded(tree: &[u8], at: usize, raw: u32) -> u32
+    ensures { λ r. ⌜ r ≡ fold (postBits (now (tree .entry)) at) raw ⌝ }
+{
+    let p = PostBits {
+        scale: tree::scale_at(tree, at),
+        offset: tree::offset_at(tree, at),
+    };
+    numeric::fold(p, raw)
+}
+
+// The constant behind a statement list: its offset alone.
+pub(crate) fn list_constant(tree: &[u8], at: usize) -> u32
+    ensures { λ r. ⌜ r ≡ offsetAt (now (tree .entry)) at ⌝ }
+{
+    tree::offset_at(tree, at)
+}
+
+// ---- rules without operands
+
+pub(crate) fn float(tree: &[u8], at: usize, ws: &mut [u32], st: State) -> State
+    ensures { λ r. ⌜ _≡_ {A = Held} (r, now (ws .exit)) (constant (floatOf (payloadRefAt (now (tree .entry)) at)) (st, now (ws .entry))) ⌝ }
+{
+    let p = tree::payload_at(tree, at);
+    interning::constant(ws, st, float_bits(p))
+}
+
+pub(crate) fn string_literal(tree: &[u8], at: usize, ws: &mut [u32], st: State) -> State
+    ensures { λ r. ⌜ _≡_ {A = Held} (r, now (ws .exit)) (R.stringLiteral (now (tree .entry)) at (st, now (ws .entry))) ⌝ }
+{
+    let s = not_float_only(st);
+    let p = tree::payload_at(tree, at);
+    let e = interning::hash(ws, s, string_hash(p));
+    instr_of(ws, e, 2, 0, 0)
+}
+
+pub(crate) fn resource(tree: &[u8], at: usize, ws: &mut [u32], st: State) -> State
+    ensures { λ r. ⌜ _≡_ {A = Held} (r, now (ws .exit)) (R.resource (now (tree .entry)) at (st, now (ws .entry))) ⌝ }
+{
+    let s = not_float_only(st);
+    let p = tree::payload_at(tree, at);
+    let e = interning::hash(ws, s, resource_hash(p));
+    instr_of(ws, e, 3, 0, 0)
+}
+
+// The node's constant with its post folded in.
+pub(crate) fn generic_constant(tree: &[u8], at: usize, ws: &mut [u32], st: State) -> State
+    ensures { λ r. ⌜ _≡_ {A = Held} (r, now (ws .exit)) (R.generic (now (tree .entry)) at (st, now (ws .entry))) ⌝ }
+{
+    let p = tree::payload_at(tree, at);
+    let bits = folded(tree, at, constant_bits(p));
+    interning::constant(ws, st, bits)
+}
+
+fn load_context(tree: &[u8], at: usize, ws: &mut [u32], st: State, q: u16) -> State
+    ensures { λ r. ⌜ _≡_ {A = Held} (r, now (ws .exit)) (R.loadContext (now (tree .entry)) at q (st, now (ws .entry))) ⌝ }
+{
+    let p = tree::payload_at(tree, at);
+    let Payload::Context(n) = p else {
+        return builder::failed(ws, st, 7);
+    };
+    let s = flag(st, Flags::READS_CONTEXT);
+    let e = interning::name(ws, s, n);
+    instr_of(ws, e, 7, 0, q)
+}
+
+fn load_temp(tree: &[u8], at: usize, ws: &mut [u32], st: State, q: u16) -> State
+    ensures { λ r. ⌜ _≡_ {A = Held} (r, now (ws .exit)) (R.loadTemp (now (tree .entry)) at q (st, now (ws .entry))) ⌝ }
+{
+    let p = tree::payload_at(tree, at);
+    let Payload::Temp(n) = p else {
+        return load_context(tree, at, ws, st, q);
+    };
+    let e = interning::temp(ws, st, n);
+    instr_of(ws, e, 6, 0, q)
+}
+
+fn load_var(tree: &[u8], at: usize, ws: &mut [u32], st: State, q: u16) -> State
+    ensures { λ r. ⌜ _≡_ {A = Held} (r, now (ws .exit)) (R.loadVar (now (tree .entry)) at q (st, now (ws .entry))) ⌝ }
+{
+    let p = tree::payload_at(tree, at);
+    let Payload::Entity(n) = p else {
+        return load_temp(tree, at, ws, st, q);
+    };
+    let s = flag(st, Flags::READS_ACTOR_VARS);
+    let e = interning::name(ws, s, n);
+    instr_of(ws, e, 5, 0, q)
+}
+
+// A variable, whatever the operator: the payload tells its kind.
+pub(crate) fn load(tree: &[u8], at: usize, ws: &mut [u32], st: State) -> State
+    ensures { λ r. ⌜ _≡_ {A = Held} (r, now (ws .exit)) (R.load (now (tree .entry)) at (st, now (ws .entry))) ⌝ }
+{
+    let e = post(tree, at, ws, st);
+    let s = e.state;
+    load_var(tree, at, ws, s, e.index)
+}
+
+// ---- behind an operand
+
+// A member read behind its base; `last` is the last member of the path.
+pub(crate) fn member_put(tree: &[u8], at: usize, ws: &mut [u32], st: State, last: NameRef) -> State
+    ensures { λ r. ⌜ _≡_ {A = Held} (r, now (ws .exit)) (R.memberPut (now (tree .entry)) at last (st, now (ws .entry))) ⌝ }
+{
+    let p = tree::payload_at(tree, at);
+    let Payload::Member(n) = p else {
+        return builder::failed(ws, st, 7);
+    };
+    let e = interning::member(ws, st, n, last);
+    put_post_of(tree, at, ws, e, 9)
+}
+
+pub(crate) fn array_put(tree: &[u8], at: usize, ws: &mut [u32], st: State, n: NameRef) -> State
+    ensures { λ r. ⌜ _≡_ {A = Held} (r, now (ws .exit)) (R.arrayPut (now (tree .entry)) at n (st, now (ws .entry))) ⌝ }
+{
+    let e = interning::name(ws, st, n);
+    put_post_of(tree, at, ws, e, 8)
+}
