@@ -46,7 +46,7 @@ chosen true b h = (refl, h)
 chosen false b h = absurd (false≢true h)
 
 -- what `row` says of its first node
-row-says : (inside : ℕ → Bool) (s : List ℕ) (n p e : ℕ) → row inside s (suc n) p e ≡ true
+pub row-says : (inside : ℕ → Bool) (s : List ℕ) (n p e : ℕ) → row inside s (suc n) p e ≡ true
     → (fits s p e ≡ true) × (inside p ≡ true) × (row inside s n (nextAt s p) e ≡ true)
 unfolding row
 row-says inside s n p e h =

@@ -1,11 +1,11 @@
 -- The table of rules, and what it says of every code by one test over the whole table. Assumes nothing.
-use mathlib.Core.Path.{_≡_, refl}
+use mathlib.Core.Path.{_≡_}
 use mathlib.Core.List.{List, [], _∷_}
-use mathlib.Core.Bool.{Bool, true, false, not, Bool·beq}
+use mathlib.Core.Bool.{Bool}
 use Prim.Native.Nat.{ℕ, _<_}
-use lib.Dec.{T, eqb, eqb→eq}
+use lib.Dec.{eqb, eqb→eq}
 use lib.ListN.{getD}
-use Rattle.ast.specs.Rules.{ruleOf, known}
+use Rattle.ast.specs.Rules.{ruleOf}
 use Rattle.ast.proofs.Table.{at}
 
 -- the table as src/rules.rt has it
@@ -35,17 +35,3 @@ is-rule op x = eqb x (ruleOf op)
 pub rule-at : (op : ℕ) → op < 256 → getD rules op 0 ≡ ruleOf op
 unfolding rules is-rule ruleOf
 rule-at op h = eqb→eq (getD rules op 0) (ruleOf op) (at is-rule rules tt op h)
-
-beq : (a b : Bool) → T (Bool·beq a b) → a ≡ b
-beq true true t = refl
-beq true false t = absurd t
-beq false true t = absurd t
-beq false false t = refl
-
-is-told : ℕ → ℕ → Bool
-is-told op x = Bool·beq (not (eqb (ruleOf op) 0)) (known op)
-
--- a code is known where its rule is not 0
-pub known-at : (op : ℕ) → op < 256 → not (eqb (ruleOf op) 0) ≡ known op
-unfolding rules is-told known ruleOf
-known-at op h = beq (not (eqb (ruleOf op) 0)) (known op) (at is-told rules tt op h)

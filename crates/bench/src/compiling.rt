@@ -1,9 +1,8 @@
 // A tree image's program image on standard output; of a refusal, one line on standard error.
+use crate::say;
 use codegen::Answer;
 
 const STDOUT: i32 = 1;
-
-const STDERR: i32 = 2;
 
 // The program image of the tree image `tree`, or why it is refused.
 pub fn compile(tree: &[u8]) {
@@ -19,7 +18,9 @@ pub fn compile(tree: &[u8]) {
 fn write(image: &[u8], n: usize) {
     let first: usize = 0;
     if n <= image.len() {
-        io::write_all(STDOUT, &image[first..n]);
+        if !io::write_all(STDOUT, &image[first..n]) {
+            crate::not_written();
+        }
     }
 }
 
@@ -40,8 +41,4 @@ fn refused(r: u8) {
         9 => say(b"refused 9: the program image is longer than the output\n"),
         _ => say(b"refused 1: the workspace has fewer than 16,384 words\n"),
     }
-}
-
-fn say(line: &[u8]) {
-    io::write_all(STDERR, line);
 }

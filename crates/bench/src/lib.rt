@@ -5,6 +5,8 @@ pub mod listing;
 ghost use mathlib.Core.Path.{_≡_};
 ghost use lib.ListN.{length};
 
+const STDERR: i32 = 2;
+
 // One byte more than any tree image has: longer input is refused by question 2.
 pub fn input() -> [u8; 6145]
     ensures { λ r. ⌜ 6145 ≡ length r ⌝ }
@@ -13,7 +15,7 @@ pub fn input() -> [u8; 6145]
 }
 
 // The words that a workspace must have.
-pub(crate) fn workspace() -> [u32; 16384]
+pub fn workspace() -> [u32; 16384]
     ensures { λ r. ⌜ 16384 ≡ length r ⌝ }
 {
     [0; 16384]
@@ -25,8 +27,18 @@ pub(crate) fn workspace() -> [u32; 16384]
 // 25 bytes and its text, so there are at most 245 of these; each gives most as a member: 14 bytes, its own text, and the text of its path's last member,
 // which every member of the path repeats, 255 bytes at most: 65,905 for all, and 6,137 for their own texts. The header, the nine counts, slot 0 and
 // the closing fields take 58. Together that is 94,314; the longest image that was found has 56,827.
-pub(crate) fn output() -> [u8; 98304]
+pub fn output() -> [u8; 98304]
     ensures { λ r. ⌜ 98304 ≡ length r ⌝ }
 {
     [0; 98304]
+}
+
+// A line for people.
+pub(crate) fn say(line: &[u8]) {
+    io::write_all(STDERR, line);
+}
+
+// What a program says where standard output is full or closed.
+pub fn not_written() {
+    say(b"not written: standard output took only a part of it, or nothing\n");
 }

@@ -9,8 +9,8 @@ const CODE: usize = 9;
 // The closing fields: stack, loops, handlers, flags (2 each), float_loop (1).
 const CLOSING: usize = 9;
 
-// The listing of the program of the tree image `tree`, or its refusal.
-pub fn list(tree: &[u8]) {
+// The listing of the program of the tree image `tree`, or its refusal. Whether all of it was written: it stops where standard output takes no more.
+pub fn list(tree: &[u8]) -> bool {
     let mut ws = crate::workspace();
     let mut out = crate::output();
     let a = codegen::build(tree, &mut ws, &mut out);
@@ -21,62 +21,66 @@ pub fn list(tree: &[u8]) {
 }
 
 // A program image of `n` bytes.
-fn listing(image: &[u8], n: usize) {
-    instructions(image, wire::get_u32(image, 5, 0));
+fn listing(image: &[u8], n: usize) -> bool {
     if CLOSING <= n {
-        closing(image, n - CLOSING);
+        return instructions(image, wire::get_u32(image, 5, 0)) && closing(image, n - CLOSING);
     }
+    false
 }
 
-fn instructions(image: &[u8], count: u32) {
+fn instructions(image: &[u8], count: u32) -> bool {
     let mut i: u32 = 0;
     while i < count {
-        instruction(image, i);
+        if !instruction(image, i) {
+            return false;
+        }
         i += 1;
     }
+    true
 }
 
 // Index, opcode, sub, A and B.
-fn instruction(image: &[u8], i: u32) {
+fn instruction(image: &[u8], i: u32) -> bool {
     let at = CODE + 8 * (i as usize);
-    number(i as u64);
-    spaced(wire::get_u8(image, at, 0) as u64);
-    spaced(wire::get_u8(image, at, 1) as u64);
-    spaced(wire::get_u32(image, at, 2) as u64);
-    spaced(wire::get_u16(image, at, 6) as u64);
-    line_end();
+    number(i as u64)
+        && spaced(wire::get_u8(image, at, 0) as u64)
+        && spaced(wire::get_u8(image, at, 1) as u64)
+        && spaced(wire::get_u32(image, at, 2) as u64)
+        && spaced(wire::get_u16(image, at, 6) as u64)
+        && line_end()
 }
 
-fn closing(image: &[u8], at: usize) {
-    text(b"depths");
-    spaced(wire::get_u16(image, at, 0) as u64);
-    spaced(wire::get_u16(image, at, 2) as u64);
-    spaced(wire::get_u16(image, at, 4) as u64);
-    line_end();
-    field(b"flags", wire::get_u16(image, at, 6) as u64);
-    field(b"float_loop", wire::get_u8(image, at, 8) as u64);
+fn closing(image: &[u8], at: usize) -> bool {
+    depths(image, at)
+        && field(b"flags", wire::get_u16(image, at, 6) as u64)
+        && field(b"float_loop", wire::get_u8(image, at, 8) as u64)
 }
 
-// A line of a name and a number.
-pub fn field(name: &[u8], n: u64) {
-    text(name);
-    spaced(n);
-    line_end();
+fn depths(image: &[u8], at: usize) -> bool {
+    text(b"depths")
+        && spaced(wire::get_u16(image, at, 0) as u64)
+        && spaced(wire::get_u16(image, at, 2) as u64)
+        && spaced(wire::get_u16(image, at, 4) as u64)
+        && line_end()
 }
 
-fn spaced(n: u64) {
-    text(b" ");
-    number(n);
+// A line of a name and a number; whether it was written.
+pub fn field(name: &[u8], n: u64) -> bool {
+    text(name) && spaced(n) && line_end()
 }
 
-fn line_end() {
-    text(b"\n");
+fn spaced(n: u64) -> bool {
+    text(b" ") && number(n)
 }
 
-fn number(n: u64) {
-    io::print_decimal(STDOUT, n);
+fn line_end() -> bool {
+    text(b"\n")
 }
 
-fn text(s: &[u8]) {
-    io::write_all(STDOUT, s);
+fn number(n: u64) -> bool {
+    io::print_decimal(STDOUT, n)
+}
+
+fn text(s: &[u8]) -> bool {
+    io::write_all(STDOUT, s)
 }

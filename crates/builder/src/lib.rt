@@ -3,15 +3,13 @@ pub mod segments;
 
 use code::segment;
 use depth::Depth;
+use program::ConstIdx;
 ghost use mathlib.Core.Path.{_≡_};
 ghost use mathlib.Core.List.{List};
 ghost use Rattle.builder.specs.Steps.{Held, emitted, flushed, put, putConst, refused, failed, pushed};
 
+// What every step changes stands together at the end: the compiler copies the rest in whole blocks.
 pub struct State {
-    pub top: u16,
-    pub base: u16,
-    pub finished: u16,
-    pub waiting: bool,
     pub consts: u16,
     pub posts: u16,
     pub hashes: u16,
@@ -23,7 +21,11 @@ pub struct State {
     pub calls: u16,
     pub arguments: u16,
     pub depth: Depth,
+    pub top: u16,
+    pub base: u16,
+    pub finished: u16,
     pub flags: u16,
+    pub waiting: bool,
     pub float_loop: bool,
     pub refusal: u8,
 }
@@ -58,21 +60,15 @@ pub fn put(ws: &mut [u32], st: State, front: u32, back: u32) -> State
 }
 
 // Const, or PushConst where a Push waits.
-pub fn put_const(ws: &mut [u32], st: State, index: u16) -> State
-    ensures { λ r. ⌜ _≡_ {A = Held} (r, now (ws .exit)) (putConst index (st, now (ws .entry))) ⌝ }
+pub fn put_const(ws: &mut [u32], st: State, index: ConstIdx) -> State
+    ensures { λ r. ⌜ _≡_ {A = Held} (r, now (ws .exit)) (putConst (index .0) (st, now (ws .entry))) ⌝ }
 {
     if st.waiting {
         let mut s = st;
         s.waiting = false;
-        return emit(ws, s, 0x0e00_0000, wide(index));
+        return emit(ws, s, 0x0e00_0000, index.0);
     }
-    emit(ws, st, 0x0100_0000, wide(index))
-}
-
-fn wide(x: u16) -> u32
-    ensures { λ r. ⌜ r ≡ x ⌝ }
-{
-    x as u32
+    emit(ws, st, 0x0100_0000, index.0)
 }
 
 // The first refusal stays.
@@ -99,7 +95,7 @@ pub fn push(st: State) -> State
     ensures { λ r. ⌜ r ≡ pushed st ⌝ }
 {
     let d = st.depth;
-    let e = depth::push_operand(d);
+    let e = depth::with_operand(d);
     let mut s = st;
     s.depth = e;
     s.waiting = true;

@@ -1,20 +1,17 @@
--- The image as a whole: its length, where it is laid, the answer; and the cleared workspace. Assumes nothing.
+-- The image as a whole: its length, where it is laid, the answer. Assumes nothing.
 use mathlib.Core.Path.{_≡_, refl, ap, sym, _∙_}
 use mathlib.Core.Bool.{Bool, cond}
-use mathlib.Core.List.{List, [], _∷_, _++_}
-use Prim.Native.Nat.{ℕ, zero, suc, _+_, _%_, _≤_, _<_}
-use native.Mathlib.Numerals.{add-one}
+use mathlib.Core.List.{List, [], _++_}
+use Prim.Native.Nat.{ℕ, _+_, _%_, _≤_, _<_}
 use native.Mathlib.Omega.{arith}
-use lib.ListN.{length, length-append, length-drop, length-replicate, set, drop, getD, replicate}
-use lib.Seq.{drop-cons, set-at}
+use lib.ListN.{length, length-append, drop}
 use borrow.Author.Tests.{le-leb, lt-leb}
 use Rattle.wire.specs.Bytes.{be}
 use Rattle.wire.proofs.Numbers.{be-length}
 use Rattle.card.specs.declared.Sections.{Sections}
 use Rattle.card.specs.declared.Answer.{Answer}
-use Rattle.card.specs.Layout.{WORDS}
 use Rattle.card.specs.Written.{Wrote}
-use Rattle.card.specs.Image.{bodyOf, imageOf, laid, answerOf, wiped, cleared}
+use Rattle.card.specs.Image.{bodyOf, imageOf, laid, answerOf}
 use Rattle.card.proofs.Join.{whole, long, being}
 
 pub image-length : (tree ws : List ℕ) (c : Sections) → length (imageOf tree ws c) ≡ length (bodyOf tree ws c) + 5
@@ -54,34 +51,3 @@ written tree ws c {s} {t} {n} {r} e h p =
     let k = image-length tree ws c in
     let l : length (imageOf tree ws c) ≤ length s = omega arith in
     (whole w l ∙ placed (imageOf tree ws c) s l, long w)
-
--- words made zero, one after the other
-inside : (i : ℕ) (xs : List ℕ) → replicate i 0 ++ (0 ∷ xs) ≡ 0 ∷ (replicate i 0 ++ xs)
-inside zero xs = refl
-inside (suc i) xs = ap (λ l. 0 ∷ l) (inside i xs)
-
-pub none-wiped : (s : List ℕ) → s ≡ wiped 0 s
-unfolding wiped
-none-wiped s = refl
-
-pub wiped-length : (i : ℕ) (s : List ℕ) → i ≤ length s → length (wiped i s) ≡ length s
-unfolding wiped
-wiped-length i s h = simp (length-append, length-replicate, length-drop) (omega arith)
-
-one-wiped : (i : ℕ) (s : List ℕ) → i < length s → set (wiped i s) i 0 ≡ wiped (i + 1) s
-unfolding wiped
-one-wiped i s h = rw (add-one, drop-cons s i 0) (set-at (replicate i 0) (getD s i 0) (drop (suc i) s) 0 i (length-replicate i 0) ∙ inside i (drop (suc i) s))
-
-pub more-wiped : (i : ℕ) (s : List ℕ) {t : List ℕ} → t ≡ wiped i s → i < length s → set t i 0 ≡ wiped (i + 1) s
-more-wiped i s e h = ap (λ l. set l i 0) e ∙ one-wiped i s h
-
--- all of them, and a workspace that is too short
-pub all-cleared : (i : ℕ) (s : List ℕ) {t : List ℕ} → t ≡ wiped i s → WORDS ≤ i → i ≤ WORDS → WORDS ≤ length s → t ≡ cleared s
-unfolding cleared
-all-cleared i s e h h′ l =
-    let k : i ≡ WORDS = omega arith in
-    e ∙ ap (λ j. wiped j s) k ∙ sym (ap (λ (b : Bool). cond b (wiped WORDS s) s) (le-leb WORDS (length s) l))
-
-pub none-cleared : (s : List ℕ) → length s < WORDS → s ≡ cleared s
-unfolding cleared
-none-cleared s h = sym (ap (λ (b : Bool). cond b (wiped WORDS s) s) (lt-leb WORDS (length s) h))

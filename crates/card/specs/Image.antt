@@ -134,10 +134,3 @@ laid img s = cond (leb (length img) (length s)) (img ++ drop (length img) s) s
 -- 01, Nine questions, 9: "Is the output at least as long as the program image? No: 9."
 unfoldable pub answerOf : List ℕ → List ℕ → Answer
 answerOf img s = cond (leb (length img) (length s)) (record { number = 0; length = length img }) (record { number = 9; length = 0 })
-
--- 01, Nine questions: "The workspace's first 16,384 words are zero afterwards, and later words unchanged"; a shorter one is left as it is
-unfoldable pub wiped : ℕ → List ℕ → List ℕ
-wiped i s = replicate i 0 ++ drop i s
-
-unfoldable pub cleared : List ℕ → List ℕ
-cleared ws = cond (leb WORDS (length ws)) (wiped WORDS ws) ws

@@ -1,7 +1,6 @@
 // The nine sections, each a count and its entries, and the closing fields.
 ghost use mathlib.Core.Path.{_≡_};
 ghost use Prim.Native.Nat.{_+_, _*_, _^_, _≤_, _<_};
-ghost use lib.ListN.{length};
 ghost use Rattle.program.specs.Image.{bit};
 ghost use Rattle.card.specs.Written.{Wrote};
 ghost use Rattle.card.specs.Image.{
@@ -168,12 +167,4 @@ pub(crate) fn put_body(tree: &[u8], ws: &[u32], c: Sections, out: &mut [u8], at:
 {
     let e = put_front(tree, ws, c, out, at);
     put_back(tree, ws, c, out, e)
-}
-
-// Its length: what is written where there is no place for it.
-pub(crate) fn body_len(tree: &[u8], ws: &[u32], c: Sections) -> usize
-    ensures { λ r. ⌜ (r ≡ length (bodyOf (now (tree .entry)) (now (ws .entry)) c)) × (r ≤ 2 ^ 44) ⌝ }
-{
-    let mut scrap: [u8; 1] = [0; 1];
-    put_body(tree, ws, c, &mut scrap, 0)
 }

@@ -1,4 +1,5 @@
 // Fields of the image: numbers behind one another, and runs of them. What lies past the end of the output is not written.
+use crate::bytes;
 ghost use mathlib.Core.Path.{_≡_};
 ghost use mathlib.Core.List.{[]};
 ghost use Prim.Native.Nat.{_+_, _*_, _^_, _≤_, _<_};
@@ -25,7 +26,7 @@ pub(crate) fn put_byte(out: &mut [u8], at: usize, n: u8) -> usize
     requires { ⌜ at < 2 ^ 62 ⌝ }
     ensures { λ r. ⌜ Wrote (now (out .entry)) at (be 1 n []) (now (out .exit)) r × (r ≡ at + 1) ⌝ }
 {
-    wire::put_u8(out, at, n);
+    bytes::put_u8(out, at, n);
     at + 1
 }
 
@@ -33,7 +34,7 @@ pub(crate) fn put_half(out: &mut [u8], at: usize, n: u16) -> usize
     requires { ⌜ at < 2 ^ 62 ⌝ }
     ensures { λ r. ⌜ Wrote (now (out .entry)) at (be 2 n []) (now (out .exit)) r × (r ≡ at + 2) ⌝ }
 {
-    wire::put_u16(out, at, n);
+    bytes::put_u16(out, at, n);
     at + 2
 }
 
@@ -41,7 +42,7 @@ pub(crate) fn put_word(out: &mut [u8], at: usize, n: u32) -> usize
     requires { ⌜ at < 2 ^ 62 ⌝ }
     ensures { λ r. ⌜ Wrote (now (out .entry)) at (be 4 n []) (now (out .exit)) r × (r ≡ at + 4) ⌝ }
 {
-    wire::put_u32(out, at, n);
+    bytes::put_u32(out, at, n);
     at + 4
 }
 

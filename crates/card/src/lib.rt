@@ -1,16 +1,18 @@
-// The program image, written from the lent workspace; its answer, and the workspace cleared.
+// The program image, written from the lent workspace, and its answer.
 mod body;
+mod bytes;
 mod entries;
 mod fields;
 pub mod layout;
+mod measure;
 
 ghost use mathlib.Core.Path.{_≡_};
 ghost use lib.ListN.{length};
-ghost use Rattle.card.specs.Image.{imageOf, laid, answerOf, cleared};
-use body::body_len;
+ghost use Rattle.card.specs.Image.{imageOf, laid, answerOf};
 use body::put_body;
 use fields::put_byte;
 use fields::put_word;
+use measure::body_len;
 
 // How many entries each region holds, and the closing fields; `posts` without slot 0.
 pub struct Sections {
@@ -72,19 +74,5 @@ pub fn finish(tree: &[u8], ws: &[u32], c: Sections, out: &mut [u8]) -> Answer
     Answer {
         number: 0,
         length: n,
-    }
-}
-
-// The words that a workspace must have are made 0; a shorter one is left as it is.
-pub fn clear(ws: &mut [u32])
-    ensures { λ _. ⌜ now (ws .exit) ≡ cleared (now (ws .entry)) ⌝ }
-{
-    if ws.len() < layout::WORDS {
-        return;
-    }
-    let mut i: usize = 0;
-    while i < layout::WORDS {
-        ws[i] = 0;
-        i += 1;
     }
 }

@@ -1,7 +1,8 @@
 -- Instructions in the workspace's words: appended, given a target, aimed by their loop, moved to the finished code. Definitions only.
-use mathlib.Core.Bool.{Bool, cond}
+use mathlib.Core.Path.{_≡_}
+use mathlib.Core.Bool.{Bool, true, cond}
 use mathlib.Core.List.{List, [], _∷_}
-use Prim.Native.Nat.{ℕ, zero, suc, _+_, _*_, _/_, _%_}
+use Prim.Native.Nat.{ℕ, zero, suc, _+_, _*_, _/_, _%_, _≤_, _<_}
 use lib.Dec.{eqb, leb}
 use lib.ListN.{getD, set}
 use lib.Seq.{sets}
@@ -38,6 +39,10 @@ aimedOne words at check cleanup =
 unfoldable pub aimedRange : List ℕ → ℕ → ℕ → ℕ → ℕ → List ℕ
 aimedRange words at zero check cleanup = words
 aimedRange words at (suc n) check cleanup = aimedRange (aimedOne words at check cleanup) (suc at) n check cleanup
+
+-- that none of eight instructions from a place on waits, if so answered: their first words lack the top bit
+abbrev pub Idle : List ℕ → ℕ → ℕ → Bool → Type 0
+Idle words at n r = r ≡ true → (8 ≤ n) × ((k : ℕ) → k < 8 → getD words (at * 2 + 2 * k) 0 < 2147483648)
 
 -- a target with a start added
 abbrev pub plus : ℕ → ℕ → ℕ

@@ -5,7 +5,7 @@ ghost use mathlib.Core.List.{[], _∷_};
 ghost use Prim.Native.Nat.{_+_, _*_, _<_};
 ghost use lib.ListN.{length, getD, set};
 ghost use lib.Seq.{sets};
-ghost use Rattle.code.specs.Segments.{emitted, emittedTop, targeted, aimedOne, aimedRange, plus, relocatedOne, relocatedRange, moved, movedCount};
+ghost use Rattle.code.specs.Segments.{emitted, emittedTop, targeted, aimedOne, aimedRange, Idle, plus, relocatedOne, relocatedRange, moved, movedCount};
 use program::targets;
 
 // The first words of a Break and a Continue that wait for their loop (no opcodes of the card), and of a Jump.
@@ -85,6 +85,23 @@ fn aim_one(ws: &mut [u32], at: usize, check: u32, cleanup: u32)
     }
 }
 
+// Whether the next eight of the instructions left do not wait: what waits has the top bit in its first word. Looked at once in eight.
+fn eight_idle(ws: &[u32], at: usize, left: u16) -> bool
+    requires { ⌜ (at < 4294967296) × (0 < left) ⌝ }
+    ensures { λ r. ⌜ Idle (now (ws .entry)) at left r ⌝ }
+{
+    let i = at * 2;
+    if left % 8 != 0 {
+        return false;
+    }
+    if ws.len() < i + 15 {
+        return false;
+    }
+    let a = ws[i] | ws[i + 2] | ws[i + 4] | ws[i + 6];
+    let b = ws[i + 8] | ws[i + 10] | ws[i + 12] | ws[i + 14];
+    (a | b) < 0x8000_0000
+}
+
 // Aims the Breaks and Continues of a loop's body: `count` instructions from a place of the open code on.
 pub fn aim(ws: &mut [u32], from: u16, count: u16, check: u32, cleanup: u32)
     ensures { λ _. ⌜ now (ws .exit) ≡ aimedRange (now (ws .entry)) from count check cleanup ⌝ }
@@ -92,6 +109,11 @@ pub fn aim(ws: &mut [u32], from: u16, count: u16, check: u32, cleanup: u32)
     let mut at = wide(from);
     let mut left = count;
     while left > 0 {
+        if eight_idle(ws, at, left) {
+            at += 8;
+            left -= 8;
+            continue;
+        }
         aim_one(ws, at, check, cleanup);
         at += 1;
         left -= 1;

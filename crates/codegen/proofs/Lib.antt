@@ -1,1 +1,2 @@
+mod Clearing
 pub mod Outcome

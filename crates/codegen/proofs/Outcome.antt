@@ -21,7 +21,7 @@ use Rattle.semantics.proofs.Demand3.{demand3}
 use Rattle.semantics.proofs.Fitting.{program-fits, counted}
 use Rattle.semantics.proofs.AcceptedTrees.{parsed-fits, parsed-short}
 use Rattle.card.specs.declared.Answer as C
-use Rattle.card.specs.Image.{imageOf, laid, answerOf, wiped, cleared}
+use Rattle.card.specs.Image.{imageOf, laid, answerOf}
 use Rattle.card.proofs.Bridge.{image-is}
 use Rattle.card.specs.declared.Sections.{Sections}
 use Rattle.builder.specs.declared.State as B
@@ -106,13 +106,9 @@ taken zero card out e = take-append-seam card (drop (length card) out)
 taken (suc k) card out e = absurd (omega arith)
 
 -- a workspace of 16,384 words, cleared
-wiped-all : (n : ℕ) (s : List ℕ) → length s ≡ n → wiped n s ≡ replicate n 0
-unfolding wiped
-wiped-all n s e = let l : length s ≤ n = omega arith in ap (λ (l : List ℕ). replicate n 0 ++ l) (drop-of-length-le s l) ∙ append-nil (replicate n 0)
-
-pub all-cleared : (s : List ℕ) → length s ≡ 16384 → cleared s ≡ zeros
-unfolding cleared zeros
-all-cleared s e = rw (le-leb 16384 (length s) (omega arith)) (wiped-all 16384 s e)
+pub all-zero : (n : ℕ) → n ≡ 16384 → replicate n 0 ≡ zeros
+unfolding zeros
+all-zero n e = ap (λ k. replicate k 0) e
 
 after-zeros : (words : List ℕ) → 16384 ≤ length words → zeros ++ drop 16384 words ≡ S.workspaceAfter words
 unfolding zeros S.workspaceAfter

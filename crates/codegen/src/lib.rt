@@ -5,7 +5,7 @@ ghost use mathlib.Core.Path.{_≡_};
 ghost use mathlib.Core.Bool.{cond, false};
 ghost use Prim.Native.Nat.{_≤_};
 ghost use lib.Bits.{bitAnd};
-ghost use lib.ListN.{length};
+ghost use lib.ListN.{length, replicate};
 ghost use Rattle.ast.specs.Questions.{questions};
 ghost use Rattle.representation.specs.Sections.{sectionsOf};
 ghost use Rattle.codegen.specs.Build.{shown, packed, told, zeros, Built, Packed, Asked};
@@ -53,8 +53,19 @@ fn inside(tree: &[u8], ws: &mut [u32], out: &mut [u8]) -> Answer
     ensures { λ r. ⌜ Asked (now (tree .entry)) (now (out .entry)) (now (out .exit)) (shown r) × (now (ws .exit) ≡ zeros) ⌝ }
 {
     let a = asked(tree, ws, out);
-    card::clear(ws);
+    clear(ws);
     a
+}
+
+// Every word is made 0.
+fn clear(ws: &mut [u32])
+    ensures { λ _. ⌜ now (ws .exit) ≡ replicate (length (now (ws .entry))) 0 ⌝ }
+{
+    let mut i: usize = 0;
+    while i < ws.len() {
+        ws[i] = 0;
+        i += 1;
+    }
 }
 
 // Questions 2 to 9.

@@ -1,4 +1,7 @@
-// The current and the deepest nesting of operands, loops and handlers, by value. A counter at 65535 stays there.
+// The current and the deepest nesting of operands, loops and handlers. A counter at 65535 stays there.
+//
+// Each change is a function by value, the core. The methods are lent the counters and put what their core makes in their
+// place. For callers that hold the counters by value there is a function over each method, which lends it a local.
 use program::Depths;
 ghost use mathlib.Core.Path.{_≡_};
 ghost use Prim.Native.Nat.{max};
@@ -33,8 +36,8 @@ fn fewer(n: u16, k: u16) -> u16
     0
 }
 
-// One more operand on the stack.
-pub fn push_operand(d: Depth) -> Depth
+// The cores, by value.
+fn pushed(d: Depth) -> Depth
     ensures { λ r. ⌜ r ≡ pushed d ⌝ }
 {
     let n = d.now;
@@ -54,8 +57,7 @@ pub fn push_operand(d: Depth) -> Depth
     }
 }
 
-// `k` operands fewer on the stack.
-pub fn pop_operands(d: Depth, k: u16) -> Depth
+fn popped(d: Depth, k: u16) -> Depth
     ensures { λ r. ⌜ r ≡ popped d k ⌝ }
 {
     let n = d.now;
@@ -70,7 +72,7 @@ pub fn pop_operands(d: Depth, k: u16) -> Depth
     }
 }
 
-pub fn enter_loop(d: Depth) -> Depth
+fn loop_entered(d: Depth) -> Depth
     ensures { λ r. ⌜ r ≡ loopEntered d ⌝ }
 {
     let n = d.now;
@@ -90,7 +92,7 @@ pub fn enter_loop(d: Depth) -> Depth
     }
 }
 
-pub fn leave_loop(d: Depth) -> Depth
+fn loop_left(d: Depth) -> Depth
     ensures { λ r. ⌜ r ≡ loopLeft d ⌝ }
 {
     let n = d.now;
@@ -105,7 +107,7 @@ pub fn leave_loop(d: Depth) -> Depth
     }
 }
 
-pub fn enter_handler(d: Depth) -> Depth
+fn handler_entered(d: Depth) -> Depth
     ensures { λ r. ⌜ r ≡ handlerEntered d ⌝ }
 {
     let n = d.now;
@@ -125,7 +127,7 @@ pub fn enter_handler(d: Depth) -> Depth
     }
 }
 
-pub fn leave_handler(d: Depth) -> Depth
+fn handler_left(d: Depth) -> Depth
     ensures { λ r. ⌜ r ≡ handlerLeft d ⌝ }
 {
     let n = d.now;
@@ -138,4 +140,94 @@ pub fn leave_handler(d: Depth) -> Depth
         },
         max: m,
     }
+}
+
+// The counters are lent, and changed where they are.
+impl Depth {
+    // One more operand on the stack.
+    pub fn push_operand(&mut self)
+        ensures { λ _. ⌜ now (self .exit) ≡ pushed (now (self .entry)) ⌝ }
+    {
+        *self = pushed(*self);
+    }
+
+    // `k` operands fewer on the stack.
+    pub fn pop_operands(&mut self, k: u16)
+        ensures { λ _. ⌜ now (self .exit) ≡ popped (now (self .entry)) k ⌝ }
+    {
+        *self = popped(*self, k);
+    }
+
+    pub fn enter_loop(&mut self)
+        ensures { λ _. ⌜ now (self .exit) ≡ loopEntered (now (self .entry)) ⌝ }
+    {
+        *self = loop_entered(*self);
+    }
+
+    pub fn leave_loop(&mut self)
+        ensures { λ _. ⌜ now (self .exit) ≡ loopLeft (now (self .entry)) ⌝ }
+    {
+        *self = loop_left(*self);
+    }
+
+    pub fn enter_handler(&mut self)
+        ensures { λ _. ⌜ now (self .exit) ≡ handlerEntered (now (self .entry)) ⌝ }
+    {
+        *self = handler_entered(*self);
+    }
+
+    pub fn leave_handler(&mut self)
+        ensures { λ _. ⌜ now (self .exit) ≡ handlerLeft (now (self .entry)) ⌝ }
+    {
+        *self = handler_left(*self);
+    }
+}
+
+// Each method on a local, for callers that hold the counters by value.
+pub fn with_operand(d: Depth) -> Depth
+    ensures { λ r. ⌜ r ≡ pushed d ⌝ }
+{
+    let mut e = d;
+    e.push_operand();
+    e
+}
+
+pub fn without_operands(d: Depth, k: u16) -> Depth
+    ensures { λ r. ⌜ r ≡ popped d k ⌝ }
+{
+    let mut e = d;
+    e.pop_operands(k);
+    e
+}
+
+pub fn with_loop(d: Depth) -> Depth
+    ensures { λ r. ⌜ r ≡ loopEntered d ⌝ }
+{
+    let mut e = d;
+    e.enter_loop();
+    e
+}
+
+pub fn without_loop(d: Depth) -> Depth
+    ensures { λ r. ⌜ r ≡ loopLeft d ⌝ }
+{
+    let mut e = d;
+    e.leave_loop();
+    e
+}
+
+pub fn with_handler(d: Depth) -> Depth
+    ensures { λ r. ⌜ r ≡ handlerEntered d ⌝ }
+{
+    let mut e = d;
+    e.enter_handler();
+    e
+}
+
+pub fn without_handler(d: Depth) -> Depth
+    ensures { λ r. ⌜ r ≡ handlerLeft d ⌝ }
+{
+    let mut e = d;
+    e.leave_handler();
+    e
 }

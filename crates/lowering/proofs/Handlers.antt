@@ -12,15 +12,15 @@ use Rattle.wire.specs.Bytes.{be8}
 use Rattle.numeric.specs.Post.{fold}
 use Rattle.ast.specs.Node.{offsetAt, countAt, firstAt, nextAt}
 use Rattle.program.specs.Image.{bit}
-use Rattle.tree.specs.declared.NameRef.{NameRef}
-use Rattle.tree.specs.declared.QueryRef.{QueryRef}
-use Rattle.tree.specs.declared.Payload.{Payload}
-use Rattle.tree.specs.declared.Payload.the-variants.{Member, ArrayVariable, Query, HostMath}
-use Rattle.tree.proofs.Payload.{the-type}
+use Rattle.payload.specs.declared.NameRef.{NameRef}
+use Rattle.payload.specs.declared.QueryRef.{QueryRef}
+use Rattle.payload.specs.declared.Payload.{Payload}
+use Rattle.payload.specs.declared.Payload.the-variants.{Member, ArrayVariable, Query, HostMath}
+use Rattle.payload.proofs.Payload.{the-type}
 use Rattle.builder.specs.declared.State.{State}
 use Rattle.builder.specs.Steps.{Held, failed, pushed}
-use Rattle.interning.specs.Pools as B
-use Rattle.interning.specs.Pools.{Found, after, constant}
+use Rattle.lowering.specs.Pools as B
+use Rattle.lowering.specs.Pools.{Found, after, constant}
 use Rattle.builder.specs.Segments.{opened}
 use Rattle.lowering.specs.declared.control.EachVariable.{EachVariable}
 use Rattle.lowering.specs.Payloads.{cases, asName, asMath, asQuery, constOf}

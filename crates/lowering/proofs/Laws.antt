@@ -6,11 +6,11 @@ use Prim.Native.Nat.{ℕ, _+_}
 use lib.Dec.{ltb}
 use lib.ListN.{set}
 use Rattle.numeric.specs.Post.{Post}
-use Rattle.tree.specs.declared.NameRef.{NameRef}
+use Rattle.payload.specs.declared.NameRef.{NameRef}
 use Rattle.builder.specs.declared.State.{State}
 use Rattle.builder.specs.Steps.{Held, emitted, failed, flushed}
-use Rattle.interning.specs.Pools as B
-use Rattle.interning.specs.Pools.{Found}
+use Rattle.lowering.specs.Pools as B
+use Rattle.lowering.specs.Pools.{Found}
 use Rattle.builder.specs.Segments.{aimed, closed}
 use Rattle.lowering.specs.declared.control.EachVariable.{EachVariable}
 use Rattle.lowering.specs.Parts.{Step, going, place, argumentClosed, guard, front, instr}

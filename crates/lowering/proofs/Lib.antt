@@ -1,3 +1,10 @@
+pub mod Hits
+pub mod Kept
+pub mod Seek
+pub mod Skipped
+pub mod Slots
+pub mod Stores
+pub mod Entered
 pub mod Choice
 pub mod Others
 pub mod Missed

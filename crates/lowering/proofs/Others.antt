@@ -4,10 +4,10 @@ use mathlib.Core.List.{[], _∷_}
 use Prim.Native.Nat.{ℕ}
 use types.Run.{OneOf, miss}
 use denote.Enum.Declared.{tagOf}
-use Rattle.tree.specs.declared.NameRef.{NameRef}
-use Rattle.tree.specs.declared.Payload.{Payload}
-use Rattle.tree.specs.declared.Payload.the-variants.{None, Float, Hash, Context, Entity, Temp, Member, ArrayVariable, Geometry, Material, Texture, Query, HostMath}
-use Rattle.tree.proofs.Payload.{the-type}
+use Rattle.payload.specs.declared.NameRef.{NameRef}
+use Rattle.payload.specs.declared.Payload.{Payload}
+use Rattle.payload.specs.declared.Payload.the-variants.{None, Float, Hash, Context, Entity, Temp, Member, ArrayVariable, Geometry, Material, Texture, Query, HostMath}
+use Rattle.payload.proofs.Payload.{the-type}
 use Rattle.lowering.specs.Payloads.{cases, asName, asHash, floatOf, resourceOf}
 
 pub is-context : {X : Type 0} {p v : Payload} (n : NameRef) (d : X) (f : NameRef → X) → p ≡ v → p ≡ Context n → f n ≡ asName 3 v d f

@@ -7,7 +7,7 @@ use native.Mathlib.Numerals.{sub-one}
 use lib.Dec.{eqb}
 use Rattle.ast.specs.Node.{countAt, firstAt}
 use Rattle.builder.specs.Steps.{Held}
-use Rattle.interning.specs.Pools.{after}
+use Rattle.lowering.specs.Pools.{after}
 use Rattle.lowering.specs.declared.assign.PathEnd.{PathEnd}
 use Rattle.lowering.specs.Payloads.{asName}
 use Rattle.lowering.specs.Parts.{pathAdded}

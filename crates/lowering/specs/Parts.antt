@@ -7,13 +7,13 @@ use lib.ListN.{set}
 use Rattle.numeric.specs.Post.{Post, isIdentity}
 use Rattle.ast.specs.Node.{scaleAt, offsetAt}
 use Rattle.card.specs.Layout.{STORES, PATHS, CALLS, ARGUMENTS}
-use Rattle.pools.specs.Pools.{appendedCount, appendedWords}
-use Rattle.tree.specs.declared.NameRef.{NameRef}
+use Rattle.lowering.specs.Regions.{appendedCount, appendedWords}
+use Rattle.payload.specs.declared.NameRef.{NameRef}
 use Rattle.builder.specs.declared.State.{State}
-use Rattle.interning.specs.declared.Entry.{Entry}
+use Rattle.lowering.specs.declared.interning.Entry.{Entry}
 use Rattle.builder.specs.Steps.{Held, emitted, flushed, put}
-use Rattle.interning.specs.Pools as B
-use Rattle.interning.specs.Pools.{Found, after, high, low}
+use Rattle.lowering.specs.Pools as B
+use Rattle.lowering.specs.Pools.{Found, after, high, low}
 use Rattle.builder.specs.Segments.{targeted, aimed, closed}
 use Rattle.lowering.specs.Steps.{set-stores, set-paths, set-calls, set-arguments}
 

@@ -3,9 +3,9 @@ use mathlib.Core.Bool.{Bool, cond}
 use mathlib.Core.List.{List}
 use Prim.Native.Nat.{ℕ, _%_}
 use lib.Dec.{eqb}
-use Rattle.tree.specs.declared.NameRef.{NameRef}
-use Rattle.tree.specs.declared.Payload.{Payload}
-use Rattle.tree.specs.declared.Payload.the-variants.{None, Float, Hash, Context, Entity, Temp, Member, ArrayVariable, Geometry, Material, Texture, Query, HostMath}
+use Rattle.payload.specs.declared.NameRef.{NameRef}
+use Rattle.payload.specs.declared.Payload.{Payload}
+use Rattle.payload.specs.declared.Payload.the-variants.{None, Float, Hash, Context, Entity, Temp, Member, ArrayVariable, Geometry, Material, Texture, Query, HostMath}
 
 -- by the payload's variant: none, a float, a hash, a host function, a name of a kind, a query
 unfoldable pub cases : {X : Type 0} → Payload → X → (ℕ → X) → (ℕ → X) → (ℕ → X) → (ℕ → NameRef → X) → (ℕ → ℕ → X) → X

@@ -9,14 +9,14 @@ use Rattle.ast.specs.Rules.{ruleOf}
 use Rattle.ast.specs.Node.{opAt, offsetAt, countAt, firstAt, nextAt}
 use Rattle.program.specs.Image.{bit}
 use Rattle.code.specs.Segments.{BREAK, CONTINUE}
-use Rattle.tree.specs.declared.NameRef.{NameRef}
-use Rattle.tree.specs.declared.Payload.{Payload}
-use Rattle.tree.specs.Payloads.{payloadRefAt}
+use Rattle.payload.specs.declared.NameRef.{NameRef}
+use Rattle.payload.specs.declared.Payload.{Payload}
+use Rattle.payload.specs.Payloads.{payloadRefAt}
 use Rattle.program.specs.declared.Depths.{Depths}
 use Rattle.builder.specs.declared.State.{State}
 use Rattle.builder.specs.Steps.{Held, failed, pushed}
-use Rattle.interning.specs.Pools as B
-use Rattle.interning.specs.Pools.{Found, after, constant}
+use Rattle.lowering.specs.Pools as B
+use Rattle.lowering.specs.Pools.{Found, after, constant}
 use Rattle.builder.specs.Segments.{opened, aimed}
 use Rattle.lowering.specs.declared.assign.PathEnd.{PathEnd}
 use Rattle.lowering.specs.declared.control.EachVariable.{EachVariable}

@@ -1,16 +1,23 @@
 // What an assignment stores to: a variable, a temp, or a member path of a root.
-use crate::parts::instr_of;
+use crate::interning;
+use crate::interning::StoreEntry;
+use crate::parts::name_instr;
 use crate::parts::post;
+use crate::parts::store_instr;
+use crate::parts::temp_instr;
+use crate::pools;
 use crate::steps::flag;
 use crate::steps::not_float_only;
 use builder::State;
-use interning::Entry;
+use payload::Payload;
 use program::Flags;
-use tree::Payload;
+use program::PostIdx;
+use program::StoreIdx;
 ghost use mathlib.Core.Path.{_≡_};
 ghost use mathlib.Core.List.{List};
 ghost use Rattle.builder.specs.Steps.{Held};
-ghost use Rattle.interning.specs.Pools.{Found, after};
+ghost use Rattle.lowering.specs.Pools.{Found, after};
+ghost use Rattle.lowering.specs.Kinds.{ofStore};
 ghost use Rattle.lowering.specs.Parts.{pathAdded, storeAdded};
 ghost use Rattle.lowering.specs.Rules as R;
 
@@ -59,7 +66,7 @@ fn path_end(tree: &[u8], at: usize, levels: u16) -> PathEnd
             count: 0,
         };
     }
-    let p = tree::payload_at(tree, at);
+    let p = payload::payload_at(tree, at);
     let Payload::Member(_) = p else {
         return no_path();
     };
@@ -100,7 +107,7 @@ fn path_hashes(tree: &[u8], at: usize, ws: &mut [u32], st: State, levels: u16) -
     if rule_at(tree, at) != 16 {
         return st;
     }
-    let p = tree::payload_at(tree, at);
+    let p = payload::payload_at(tree, at);
     let Payload::Member(n) = p else {
         return st;
     };
@@ -108,8 +115,8 @@ fn path_hashes(tree: &[u8], at: usize, ws: &mut [u32], st: State, levels: u16) -
     add_path(ws, s, n.hash)
 }
 
-fn add_store(ws: &mut [u32], st: State, kind: u32, index: u16, first: u16, count: u16) -> Entry
-    ensures { λ r. ⌜ _≡_ {A = Found} (r, now (ws .exit)) (storeAdded kind index first count (st, now (ws .entry))) ⌝ }
+fn add_store(ws: &mut [u32], st: State, kind: u32, index: u16, first: u16, count: u16) -> StoreEntry
+    ensures { λ r. ⌜ _≡_ {A = Found} (ofStore r, now (ws .exit)) (storeAdded kind index first count (st, now (ws .entry))) ⌝ }
 {
     let k = st.stores;
     let n = pools::append_four(
@@ -124,7 +131,10 @@ fn add_store(ws: &mut [u32], st: State, kind: u32, index: u16, first: u16, count
     );
     let mut s = st;
     s.stores = n;
-    Entry { state: s, index: k }
+    StoreEntry {
+        state: s,
+        index: StoreIdx(k),
+    }
 }
 
 // A store to the path at `at` under a root of that kind and index.
@@ -137,14 +147,14 @@ fn store_as(
     index: u16,
     levels: u16,
     count: u16,
-    q: u16,
+    q: PostIdx,
 ) -> State
-    ensures { λ r. ⌜ _≡_ {A = Held} (r, now (ws .exit)) (R.storeAs (now (tree .entry)) kind index levels at count q (st, now (ws .entry))) ⌝ }
+    ensures { λ r. ⌜ _≡_ {A = Held} (r, now (ws .exit)) (R.storeAs (now (tree .entry)) kind index levels at count (q .0) (st, now (ws .entry))) ⌝ }
 {
     let first = st.paths;
     let s = path_hashes(tree, at, ws, st, levels);
     let e = add_store(ws, s, kind, index, first, count);
-    instr_of(ws, e, 12, 0, q)
+    store_instr(ws, e, 12, 0, q)
 }
 
 fn root_temp(
@@ -155,17 +165,17 @@ fn root_temp(
     st: State,
     levels: u16,
     count: u16,
-    q: u16,
+    q: PostIdx,
 ) -> State
-    ensures { λ r. ⌜ _≡_ {A = Held} (r, now (ws .exit)) (R.rootTemp (now (tree .entry)) root levels at count q (st, now (ws .entry))) ⌝ }
+    ensures { λ r. ⌜ _≡_ {A = Held} (r, now (ws .exit)) (R.rootTemp (now (tree .entry)) root levels at count (q .0) (st, now (ws .entry))) ⌝ }
 {
-    let p = tree::payload_at(tree, root);
+    let p = payload::payload_at(tree, root);
     let Payload::Temp(n) = p else {
         return store_as(tree, at, ws, st, 2, 0, levels, count, q);
     };
     let e = interning::temp(ws, st, n);
     let s = e.state;
-    store_as(tree, at, ws, s, 1, e.index, levels, count, q)
+    store_as(tree, at, ws, s, 1, e.index.0, levels, count, q)
 }
 
 fn root_var(
@@ -176,21 +186,21 @@ fn root_var(
     st: State,
     levels: u16,
     count: u16,
-    q: u16,
+    q: PostIdx,
 ) -> State
-    ensures { λ r. ⌜ _≡_ {A = Held} (r, now (ws .exit)) (R.rootVar (now (tree .entry)) root levels at count q (st, now (ws .entry))) ⌝ }
+    ensures { λ r. ⌜ _≡_ {A = Held} (r, now (ws .exit)) (R.rootVar (now (tree .entry)) root levels at count (q .0) (st, now (ws .entry))) ⌝ }
 {
-    let p = tree::payload_at(tree, root);
+    let p = payload::payload_at(tree, root);
     let Payload::Entity(n) = p else {
         return root_temp(tree, root, at, ws, st, levels, count, q);
     };
     let e = interning::name(ws, st, n);
     let s = e.state;
-    store_as(tree, at, ws, s, 0, e.index, levels, count, q)
+    store_as(tree, at, ws, s, 0, e.index.0, levels, count, q)
 }
 
-fn store_member(tree: &[u8], at: usize, ws: &mut [u32], st: State, levels: u16, q: u16) -> State
-    ensures { λ r. ⌜ _≡_ {A = Held} (r, now (ws .exit)) (R.storeMember (now (tree .entry)) levels at q (st, now (ws .entry))) ⌝ }
+fn store_member(tree: &[u8], at: usize, ws: &mut [u32], st: State, levels: u16, q: PostIdx) -> State
+    ensures { λ r. ⌜ _≡_ {A = Held} (r, now (ws .exit)) (R.storeMember (now (tree .entry)) levels at (q .0) (st, now (ws .entry))) ⌝ }
 {
     if rule_at(tree, at) != 16 {
         return builder::failed(ws, st, 7);
@@ -203,26 +213,26 @@ fn store_member(tree: &[u8], at: usize, ws: &mut [u32], st: State, levels: u16, 
     builder::failed(ws, st, 7)
 }
 
-fn store_temp(tree: &[u8], at: usize, ws: &mut [u32], st: State, levels: u16, q: u16) -> State
-    ensures { λ r. ⌜ _≡_ {A = Held} (r, now (ws .exit)) (R.storeTemp (now (tree .entry)) levels at q (st, now (ws .entry))) ⌝ }
+fn store_temp(tree: &[u8], at: usize, ws: &mut [u32], st: State, levels: u16, q: PostIdx) -> State
+    ensures { λ r. ⌜ _≡_ {A = Held} (r, now (ws .exit)) (R.storeTemp (now (tree .entry)) levels at (q .0) (st, now (ws .entry))) ⌝ }
 {
-    let p = tree::payload_at(tree, at);
+    let p = payload::payload_at(tree, at);
     let Payload::Temp(n) = p else {
         return store_member(tree, at, ws, st, levels, q);
     };
     let e = interning::temp(ws, st, n);
-    instr_of(ws, e, 11, 0, q)
+    temp_instr(ws, e, 11, 0, q)
 }
 
-fn store_var(tree: &[u8], at: usize, ws: &mut [u32], st: State, levels: u16, q: u16) -> State
-    ensures { λ r. ⌜ _≡_ {A = Held} (r, now (ws .exit)) (R.storeVar (now (tree .entry)) levels at q (st, now (ws .entry))) ⌝ }
+fn store_var(tree: &[u8], at: usize, ws: &mut [u32], st: State, levels: u16, q: PostIdx) -> State
+    ensures { λ r. ⌜ _≡_ {A = Held} (r, now (ws .exit)) (R.storeVar (now (tree .entry)) levels at (q .0) (st, now (ws .entry))) ⌝ }
 {
-    let p = tree::payload_at(tree, at);
+    let p = payload::payload_at(tree, at);
     let Payload::Entity(n) = p else {
         return store_temp(tree, at, ws, st, levels, q);
     };
     let e = interning::name(ws, st, n);
-    instr_of(ws, e, 10, 0, q)
+    name_instr(ws, e, 10, 0, q)
 }
 
 // A store to the target at `at`, of so many levels, with the post of the node `from`.
@@ -255,7 +265,7 @@ pub(crate) fn target_refusal(tree: &[u8], at: usize) -> u8
     if r == 34 {
         return 8;
     }
-    let p = tree::payload_at(tree, at);
+    let p = payload::payload_at(tree, at);
     let Payload::Temp(_) = p else {
         return 7;
     };

@@ -1,8 +1,10 @@
 // Calls: a call's number and the places of its arguments' starts, an argument's segment, the constants of logic.
+use crate::interning::CallEntry;
 use crate::parts::instr;
+use crate::pools;
 use builder::State;
 use builder::segments;
-use interning::Entry;
+use program::CallIdx;
 ghost use mathlib.Core.Path.{_≡_};
 ghost use mathlib.Core.List.{List};
 ghost use Prim.Native.Nat.{_+_, min};
@@ -10,7 +12,8 @@ ghost use lib.Dec.{ltb};
 ghost use lib.ListN.{set};
 ghost use mathlib.Core.Bool.{cond};
 ghost use Rattle.builder.specs.Steps.{Held};
-ghost use Rattle.interning.specs.Pools.{Found};
+ghost use Rattle.lowering.specs.Pools.{Found};
+ghost use Rattle.lowering.specs.Kinds.{ofCall};
 ghost use Rattle.lowering.specs.Parts.{callBegun, argumentClosed};
 
 fn sum(a: u16, b: u16) -> u16
@@ -23,8 +26,14 @@ fn sum(a: u16, b: u16) -> u16
 }
 
 // A call takes its number, and places for its arguments' starts.
-pub(crate) fn begin_call(ws: &mut [u32], st: State, index: u16, impl_idx: u8, count: u16) -> Entry
-    ensures { λ r. ⌜ _≡_ {A = Found} (r, now (ws .exit)) (callBegun index «impl_idx» count (st, now (ws .entry))) ⌝ }
+pub(crate) fn begin_call(
+    ws: &mut [u32],
+    st: State,
+    index: u16,
+    impl_idx: u8,
+    count: u16,
+) -> CallEntry
+    ensures { λ r. ⌜ _≡_ {A = Found} (ofCall r, now (ws .exit)) (callBegun index «impl_idx» count (st, now (ws .entry))) ⌝ }
 {
     let k = st.calls;
     let first = st.arguments;
@@ -41,7 +50,10 @@ pub(crate) fn begin_call(ws: &mut [u32], st: State, index: u16, impl_idx: u8, co
     let mut s = st;
     s.calls = n;
     s.arguments = sum(first, count);
-    Entry { state: s, index: k }
+    CallEntry {
+        state: s,
+        index: CallIdx(k),
+    }
 }
 
 fn put_start(ws: &mut [u32], slot: u16, start: u16)

@@ -1,10 +1,11 @@
 // Control: breaks, the ends of loops, a ForEach variable.
 use crate::assign::one_more;
+use crate::interning;
 use crate::parts::instr;
 use crate::parts::land;
 use builder::State;
 use builder::segments;
-use tree::Payload;
+use payload::Payload;
 ghost use mathlib.Core.Path.{_≡_};
 ghost use mathlib.Core.List.{List};
 ghost use Prim.Native.Nat.{ℕ};
@@ -67,7 +68,7 @@ fn no_variable(ws: &mut [u32], st: State) -> EachVariable
 fn variable_temp(tree: &[u8], at: usize, ws: &mut [u32], st: State) -> EachVariable
     ensures { λ r. ⌜ _≡_ {A = EachVariable × List ℕ} (r, now (ws .exit)) (R.variableTemp (now (tree .entry)) at (st, now (ws .entry))) ⌝ }
 {
-    let p = tree::payload_at(tree, at);
+    let p = payload::payload_at(tree, at);
     let Payload::Temp(n) = p else {
         return no_variable(ws, st);
     };
@@ -76,14 +77,14 @@ fn variable_temp(tree: &[u8], at: usize, ws: &mut [u32], st: State) -> EachVaria
     EachVariable {
         state: s,
         op: 45,
-        index: e.index,
+        index: e.index.0,
     }
 }
 
 pub(crate) fn variable(tree: &[u8], at: usize, ws: &mut [u32], st: State) -> EachVariable
     ensures { λ r. ⌜ _≡_ {A = EachVariable × List ℕ} (r, now (ws .exit)) (R.variable (now (tree .entry)) at (st, now (ws .entry))) ⌝ }
 {
-    let p = tree::payload_at(tree, at);
+    let p = payload::payload_at(tree, at);
     let Payload::Entity(n) = p else {
         return variable_temp(tree, at, ws, st);
     };
@@ -92,6 +93,6 @@ pub(crate) fn variable(tree: &[u8], at: usize, ws: &mut [u32], st: State) -> Eac
     EachVariable {
         state: s,
         op: 44,
-        index: e.index,
+        index: e.index.0,
     }
 }

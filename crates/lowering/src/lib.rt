@@ -2,8 +2,10 @@
 mod assign;
 mod calls;
 mod control;
+mod interning;
 mod logic;
 mod parts;
+mod pools;
 mod steps;
 mod values;
 
@@ -17,13 +19,14 @@ use parts::land;
 use parts::post;
 use parts::post_instr;
 use parts::put_post;
+use payload::NameRef;
+use payload::Payload;
 use program::Depths;
 use program::Flags;
+use program::PostIdx;
 use steps::flag;
 use steps::not_float_only;
 use steps::pop;
-use tree::NameRef;
-use tree::Payload;
 ghost use mathlib.Core.Path.{_≡_};
 ghost use mathlib.Core.List.{List};
 ghost use mathlib.Core.Bool.{false};
@@ -176,7 +179,7 @@ fn element(tree: &[u8], at: usize, ws: &mut [u32], st: State, looping: bool, lev
     if tree::count_at(tree, at) != 1 {
         return builder::failed(ws, st, 7);
     }
-    let p = tree::payload_at(tree, at);
+    let p = payload::payload_at(tree, at);
     let Payload::ArrayVariable(n) = p else {
         return builder::failed(ws, st, 7);
     };
@@ -223,7 +226,7 @@ fn member(tree: &[u8], at: usize, ws: &mut [u32], st: State, looping: bool, leve
     ensures { λ r. ⌜ _≡_ {A = Held} (r, now (ws .exit)) (R.under (now (tree .entry)) levels (R.memberRead (now (tree .entry))) at looping (st, now (ws .entry))) ⌝ }
 {
     let s = flag(not_float_only(st), Flags::USES_MEMBERS);
-    let p = tree::payload_at(tree, at);
+    let p = payload::payload_at(tree, at);
     let Payload::Member(last) = p else {
         return builder::failed(ws, s, 7);
     };
@@ -271,7 +274,7 @@ fn value(
     ensures { λ r. ⌜ _≡_ {A = Held} (r, now (ws .exit)) (R.under (now (tree .entry)) levels (R.value (now (tree .entry))) at first looping (st, now (ws .entry))) ⌝ }
 {
     if tree::count_at(tree, at) == 1 {
-        let p = tree::payload_at(tree, at);
+        let p = payload::payload_at(tree, at);
         return interning::constant(ws, st, values::constant_bits(p));
     }
     expr(tree, tree::next_at(tree, first), ws, st, looping, levels)
@@ -312,7 +315,7 @@ fn compare(
         return logic::compare_const(tree, at, ws, t, o, q);
     }
     let t = binary(tree, a, ws, s, looping, levels);
-    let u = instr(ws, t, 23, o, 0, q);
+    let u = instr(ws, t, 23, o, 0, q.0);
     pop(u, 1)
 }
 
@@ -340,7 +343,7 @@ fn equal(
         return logic::equal_const(tree, at, ws, t, o, q);
     }
     let t = binary(tree, a, ws, s, looping, levels);
-    let u = instr(ws, t, 25, o, 0, q);
+    let u = instr(ws, t, 25, o, 0, q.0);
     pop(u, 1)
 }
 
@@ -386,18 +389,18 @@ fn join(
     st: State,
     step: u8,
     last: u8,
-    q: u16,
+    q: PostIdx,
     m: u16,
     looping: bool,
     levels: u16,
 ) -> State
-    ensures { λ r. ⌜ _≡_ {A = Held} (r, now (ws .exit)) (R.under (now (tree .entry)) levels (R.junction (now (tree .entry))) step last q m a looping (st, now (ws .entry))) ⌝ }
+    ensures { λ r. ⌜ _≡_ {A = Held} (r, now (ws .exit)) (R.under (now (tree .entry)) levels (R.junction (now (tree .entry))) step last (q .0) m a looping (st, now (ws .entry))) ⌝ }
 {
     let s = expr(tree, a, ws, st, looping, levels);
     if m == 0 {
-        return instr(ws, s, last, 0, 0, q);
+        return instr(ws, s, last, 0, 0, q.0);
     }
-    let e = guard(ws, s, step, 0, q);
+    let e = guard(ws, s, step, 0, q.0);
     let t = e.state;
     let u = join(
         tree,
@@ -548,7 +551,7 @@ fn math(
     ensures { λ r. ⌜ _≡_ {A = Held} (r, now (ws .exit)) (R.under (now (tree .entry)) levels (R.hostMath (now (tree .entry))) bits at looping (st, now (ws .entry))) ⌝ }
 {
     let s = flag(st, bits);
-    let p = tree::payload_at(tree, at);
+    let p = payload::payload_at(tree, at);
     let Payload::HostMath(f) = p else {
         return builder::failed(ws, s, 7);
     };
@@ -605,17 +608,17 @@ fn arrow(tree: &[u8], at: usize, ws: &mut [u32], st: State, looping: bool, level
     let q = p.index;
     let a = tree::first_at(tree, at);
     let t = expr(tree, a, ws, x, looping, levels);
-    let e = guard(ws, t, 37, 0, q);
+    let e = guard(ws, t, 37, 0, q.0);
     let g = e.state;
     let u = expr(tree, tree::next_at(tree, a), ws, g, looping, levels);
-    let v = instr(ws, u, 38, 0, 0, q);
+    let v = instr(ws, u, 38, 0, 0, q.0);
     land(ws, v, e.index)
 }
 
 fn query(tree: &[u8], at: usize, ws: &mut [u32], st: State, levels: u16) -> State
     ensures { λ r. ⌜ _≡_ {A = Held} (r, now (ws .exit)) (R.under (now (tree .entry)) levels (R.query (now (tree .entry))) at (st, now (ws .entry))) ⌝ }
 {
-    let p = tree::payload_at(tree, at);
+    let p = payload::payload_at(tree, at);
     let Payload::Query(q) = p else {
         return builder::failed(ws, st, 7);
     };
@@ -625,7 +628,7 @@ fn query(tree: &[u8], at: usize, ws: &mut [u32], st: State, levels: u16) -> Stat
     let e = calls::begin_call(ws, s, q.index, q.impl_idx, count);
     let g = e.state;
     let t = passed(tree, ws, g, tree::first_at(tree, at), count, first, levels);
-    put_post(tree, at, ws, t, 39, 0, e.index as u32)
+    put_post(tree, at, ws, t, 39, 0, e.index.0 as u32)
 }
 
 // Each argument is a segment of its own, without loops; its start goes to its slot.

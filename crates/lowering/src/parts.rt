@@ -1,12 +1,22 @@
 // Parts of rules: an instruction, the node's post, an instruction whose target comes later.
+use crate::interning;
+use crate::interning::ConstEntry;
+use crate::interning::Entry;
+use crate::interning::HashEntry;
+use crate::interning::MemberEntry;
+use crate::interning::NameEntry;
+use crate::interning::PostEntry;
+use crate::interning::StoreEntry;
+use crate::interning::TempEntry;
 use builder::State;
-use interning::Entry;
 use numeric::PostBits;
+use program::PostIdx;
 ghost use mathlib.Core.Path.{_≡_};
 ghost use mathlib.Core.List.{List};
 ghost use Rattle.builder.specs.Steps.{Held};
-ghost use Rattle.interning.specs.Pools as B;
-ghost use Rattle.interning.specs.Pools.{Found};
+ghost use Rattle.lowering.specs.Pools as B;
+ghost use Rattle.lowering.specs.Pools.{Found};
+ghost use Rattle.lowering.specs.Kinds.{ofConst, ofHash, ofName, ofTemp, ofMember, ofStore, ofPost};
 ghost use Rattle.lowering.specs.Parts.{front, instr, going, postBits, putPost, postInstr, guard, land};
 
 fn front(op: u8, sub: u8, b: u16) -> u32
@@ -22,17 +32,49 @@ pub(crate) fn instr(ws: &mut [u32], st: State, op: u8, sub: u8, a: u32, b: u16) 
     builder::put(ws, st, front(op, sub, b), a)
 }
 
-// An instruction whose A is an entry's index.
-pub(crate) fn instr_of(ws: &mut [u32], e: Entry, op: u8, sub: u8, b: u16) -> State
-    ensures { λ r. ⌜ _≡_ {A = Held} (r, now (ws .exit)) (going (e, now (ws .entry)) (λ k. instr op sub k b)) ⌝ }
+// An instruction whose A is a constant's index, with that post.
+pub(crate) fn const_instr(ws: &mut [u32], e: ConstEntry, op: u8, sub: u8, q: PostIdx) -> State
+    ensures { λ r. ⌜ _≡_ {A = Held} (r, now (ws .exit)) (going (ofConst e, now (ws .entry)) (λ k. instr op sub k (q .0))) ⌝ }
 {
     let s = e.state;
-    instr(ws, s, op, sub, e.index as u32, b)
+    instr(ws, s, op, sub, e.index.0, q.0)
+}
+
+// An instruction whose A is a hash's index, with that post.
+pub(crate) fn hash_instr(ws: &mut [u32], e: HashEntry, op: u8, sub: u8, q: PostIdx) -> State
+    ensures { λ r. ⌜ _≡_ {A = Held} (r, now (ws .exit)) (going (ofHash e, now (ws .entry)) (λ k. instr op sub k (q .0))) ⌝ }
+{
+    let s = e.state;
+    instr(ws, s, op, sub, e.index.0, q.0)
+}
+
+// An instruction whose A is a name's index, with that post.
+pub(crate) fn name_instr(ws: &mut [u32], e: NameEntry, op: u8, sub: u8, q: PostIdx) -> State
+    ensures { λ r. ⌜ _≡_ {A = Held} (r, now (ws .exit)) (going (ofName e, now (ws .entry)) (λ k. instr op sub k (q .0))) ⌝ }
+{
+    let s = e.state;
+    instr(ws, s, op, sub, e.index.0 as u32, q.0)
+}
+
+// An instruction whose A is a temp's index, with that post.
+pub(crate) fn temp_instr(ws: &mut [u32], e: TempEntry, op: u8, sub: u8, q: PostIdx) -> State
+    ensures { λ r. ⌜ _≡_ {A = Held} (r, now (ws .exit)) (going (ofTemp e, now (ws .entry)) (λ k. instr op sub k (q .0))) ⌝ }
+{
+    let s = e.state;
+    instr(ws, s, op, sub, e.index.0 as u32, q.0)
+}
+
+// An instruction whose A is a store's index, with that post.
+pub(crate) fn store_instr(ws: &mut [u32], e: StoreEntry, op: u8, sub: u8, q: PostIdx) -> State
+    ensures { λ r. ⌜ _≡_ {A = Held} (r, now (ws .exit)) (going (ofStore e, now (ws .entry)) (λ k. instr op sub k (q .0))) ⌝ }
+{
+    let s = e.state;
+    instr(ws, s, op, sub, e.index.0 as u32, q.0)
 }
 
 // The slot of the node's post.
-pub(crate) fn post(tree: &[u8], at: usize, ws: &mut [u32], st: State) -> Entry
-    ensures { λ r. ⌜ _≡_ {A = Found} (r, now (ws .exit)) (B.post (postBits (now (tree .entry)) at) (st, now (ws .entry))) ⌝ }
+pub(crate) fn post(tree: &[u8], at: usize, ws: &mut [u32], st: State) -> PostEntry
+    ensures { λ r. ⌜ _≡_ {A = Found} (ofPost r, now (ws .exit)) (B.post (postBits (now (tree .entry)) at) (st, now (ws .entry))) ⌝ }
 {
     let p = PostBits {
         scale: tree::scale_at(tree, at),
@@ -55,15 +97,29 @@ pub(crate) fn put_post(
 {
     let e = post(tree, at, ws, st);
     let s = e.state;
-    instr(ws, s, op, sub, a, e.index)
+    instr(ws, s, op, sub, a, e.index.0)
 }
 
-// The same, where A is an entry's index.
-pub(crate) fn put_post_of(tree: &[u8], at: usize, ws: &mut [u32], e: Entry, op: u8) -> State
-    ensures { λ r. ⌜ _≡_ {A = Held} (r, now (ws .exit)) (going (e, now (ws .entry)) (λ k. putPost (now (tree .entry)) at op 0 k)) ⌝ }
+// The same, where A is a name's index.
+pub(crate) fn name_put_post(tree: &[u8], at: usize, ws: &mut [u32], e: NameEntry, op: u8) -> State
+    ensures { λ r. ⌜ _≡_ {A = Held} (r, now (ws .exit)) (going (ofName e, now (ws .entry)) (λ k. putPost (now (tree .entry)) at op 0 k)) ⌝ }
 {
     let s = e.state;
-    put_post(tree, at, ws, s, op, 0, e.index as u32)
+    put_post(tree, at, ws, s, op, 0, e.index.0 as u32)
+}
+
+// The same, where A is a member's index.
+pub(crate) fn member_put_post(
+    tree: &[u8],
+    at: usize,
+    ws: &mut [u32],
+    e: MemberEntry,
+    op: u8,
+) -> State
+    ensures { λ r. ⌜ _≡_ {A = Held} (r, now (ws .exit)) (going (ofMember e, now (ws .entry)) (λ k. putPost (now (tree .entry)) at op 0 k)) ⌝ }
+{
+    let s = e.state;
+    put_post(tree, at, ws, s, op, 0, e.index.0 as u32)
 }
 
 // A Post behind a branch; nothing for the identity.

@@ -12,7 +12,7 @@ pub(crate) fn operand(st: State) -> State
     ensures { λ r. ⌜ r ≡ operandEntered st ⌝ }
 {
     let d = st.depth;
-    let e = depth::push_operand(d);
+    let e = depth::with_operand(d);
     let mut s = st;
     s.depth = e;
     s
@@ -22,7 +22,7 @@ pub(crate) fn pop(st: State, k: u16) -> State
     ensures { λ r. ⌜ r ≡ popped k st ⌝ }
 {
     let d = st.depth;
-    let e = depth::pop_operands(d, k);
+    let e = depth::without_operands(d, k);
     let mut s = st;
     s.depth = e;
     s
@@ -32,7 +32,7 @@ pub(crate) fn enter_loop(st: State) -> State
     ensures { λ r. ⌜ r ≡ loopEntered st ⌝ }
 {
     let d = st.depth;
-    let e = depth::enter_loop(d);
+    let e = depth::with_loop(d);
     let mut s = st;
     s.depth = e;
     s
@@ -42,7 +42,7 @@ pub(crate) fn leave_loop(st: State) -> State
     ensures { λ r. ⌜ r ≡ loopLeft st ⌝ }
 {
     let d = st.depth;
-    let e = depth::leave_loop(d);
+    let e = depth::without_loop(d);
     let mut s = st;
     s.depth = e;
     s
@@ -52,7 +52,7 @@ pub(crate) fn enter_handler(st: State) -> State
     ensures { λ r. ⌜ r ≡ handlerEntered st ⌝ }
 {
     let d = st.depth;
-    let e = depth::enter_handler(d);
+    let e = depth::with_handler(d);
     let mut s = st;
     s.depth = e;
     s
@@ -62,7 +62,7 @@ pub(crate) fn leave_handler(st: State) -> State
     ensures { λ r. ⌜ r ≡ handlerLeft st ⌝ }
 {
     let d = st.depth;
-    let e = depth::leave_handler(d);
+    let e = depth::without_handler(d);
     let mut s = st;
     s.depth = e;
     s

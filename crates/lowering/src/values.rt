@@ -1,22 +1,27 @@
 // Values: constants, strings, resources, loads, members, and what an assignment stores to.
-use crate::parts::instr_of;
+use crate::interning;
+use crate::parts::hash_instr;
+use crate::parts::member_put_post;
+use crate::parts::name_instr;
+use crate::parts::name_put_post;
 use crate::parts::post;
-use crate::parts::put_post_of;
+use crate::parts::temp_instr;
 use crate::steps::flag;
 use crate::steps::not_float_only;
 use builder::State;
 use numeric::PostBits;
+use payload::NameRef;
+use payload::Payload;
 use program::Flags;
-use tree::NameRef;
-use tree::Payload;
+use program::PostIdx;
 ghost use mathlib.Core.Path.{_≡_};
 ghost use mathlib.Core.List.{List};
 ghost use Prim.Native.Nat.{_%_};
 ghost use Rattle.numeric.specs.Post.{fold};
 ghost use Rattle.ast.specs.Node.{offsetAt};
-ghost use Rattle.tree.specs.Payloads.{payloadRefAt};
+ghost use Rattle.payload.specs.Payloads.{payloadRefAt};
 ghost use Rattle.builder.specs.Steps.{Held};
-ghost use Rattle.interning.specs.Pools.{constant};
+ghost use Rattle.lowering.specs.Pools.{constant};
 ghost use Rattle.lowering.specs.Payloads.{floatOf, constOf, stringOf, resourceOf};
 ghost use Rattle.lowering.specs.Parts.{postBits};
 ghost use Rattle.lowering.specs.Rules as R;
@@ -91,7 +96,7 @@ pub(crate) fn list_constant(tree: &[u8], at: usize) -> u32
 pub(crate) fn float(tree: &[u8], at: usize, ws: &mut [u32], st: State) -> State
     ensures { λ r. ⌜ _≡_ {A = Held} (r, now (ws .exit)) (constant (floatOf (payloadRefAt (now (tree .entry)) at)) (st, now (ws .entry))) ⌝ }
 {
-    let p = tree::payload_at(tree, at);
+    let p = payload::payload_at(tree, at);
     interning::constant(ws, st, float_bits(p))
 }
 
@@ -99,62 +104,62 @@ pub(crate) fn string_literal(tree: &[u8], at: usize, ws: &mut [u32], st: State) 
     ensures { λ r. ⌜ _≡_ {A = Held} (r, now (ws .exit)) (R.stringLiteral (now (tree .entry)) at (st, now (ws .entry))) ⌝ }
 {
     let s = not_float_only(st);
-    let p = tree::payload_at(tree, at);
+    let p = payload::payload_at(tree, at);
     let e = interning::hash(ws, s, string_hash(p));
-    instr_of(ws, e, 2, 0, 0)
+    hash_instr(ws, e, 2, 0, PostIdx::PLAIN)
 }
 
 pub(crate) fn resource(tree: &[u8], at: usize, ws: &mut [u32], st: State) -> State
     ensures { λ r. ⌜ _≡_ {A = Held} (r, now (ws .exit)) (R.resource (now (tree .entry)) at (st, now (ws .entry))) ⌝ }
 {
     let s = not_float_only(st);
-    let p = tree::payload_at(tree, at);
+    let p = payload::payload_at(tree, at);
     let e = interning::hash(ws, s, resource_hash(p));
-    instr_of(ws, e, 3, 0, 0)
+    hash_instr(ws, e, 3, 0, PostIdx::PLAIN)
 }
 
 // The node's constant with its post folded in.
 pub(crate) fn generic_constant(tree: &[u8], at: usize, ws: &mut [u32], st: State) -> State
     ensures { λ r. ⌜ _≡_ {A = Held} (r, now (ws .exit)) (R.generic (now (tree .entry)) at (st, now (ws .entry))) ⌝ }
 {
-    let p = tree::payload_at(tree, at);
+    let p = payload::payload_at(tree, at);
     let bits = folded(tree, at, constant_bits(p));
     interning::constant(ws, st, bits)
 }
 
-fn load_context(tree: &[u8], at: usize, ws: &mut [u32], st: State, q: u16) -> State
-    ensures { λ r. ⌜ _≡_ {A = Held} (r, now (ws .exit)) (R.loadContext (now (tree .entry)) at q (st, now (ws .entry))) ⌝ }
+fn load_context(tree: &[u8], at: usize, ws: &mut [u32], st: State, q: PostIdx) -> State
+    ensures { λ r. ⌜ _≡_ {A = Held} (r, now (ws .exit)) (R.loadContext (now (tree .entry)) at (q .0) (st, now (ws .entry))) ⌝ }
 {
-    let p = tree::payload_at(tree, at);
+    let p = payload::payload_at(tree, at);
     let Payload::Context(n) = p else {
         return builder::failed(ws, st, 7);
     };
     let s = flag(st, Flags::READS_CONTEXT);
     let e = interning::name(ws, s, n);
-    instr_of(ws, e, 7, 0, q)
+    name_instr(ws, e, 7, 0, q)
 }
 
-fn load_temp(tree: &[u8], at: usize, ws: &mut [u32], st: State, q: u16) -> State
-    ensures { λ r. ⌜ _≡_ {A = Held} (r, now (ws .exit)) (R.loadTemp (now (tree .entry)) at q (st, now (ws .entry))) ⌝ }
+fn load_temp(tree: &[u8], at: usize, ws: &mut [u32], st: State, q: PostIdx) -> State
+    ensures { λ r. ⌜ _≡_ {A = Held} (r, now (ws .exit)) (R.loadTemp (now (tree .entry)) at (q .0) (st, now (ws .entry))) ⌝ }
 {
-    let p = tree::payload_at(tree, at);
+    let p = payload::payload_at(tree, at);
     let Payload::Temp(n) = p else {
         return load_context(tree, at, ws, st, q);
     };
     let e = interning::temp(ws, st, n);
-    instr_of(ws, e, 6, 0, q)
+    temp_instr(ws, e, 6, 0, q)
 }
 
-fn load_var(tree: &[u8], at: usize, ws: &mut [u32], st: State, q: u16) -> State
-    ensures { λ r. ⌜ _≡_ {A = Held} (r, now (ws .exit)) (R.loadVar (now (tree .entry)) at q (st, now (ws .entry))) ⌝ }
+fn load_var(tree: &[u8], at: usize, ws: &mut [u32], st: State, q: PostIdx) -> State
+    ensures { λ r. ⌜ _≡_ {A = Held} (r, now (ws .exit)) (R.loadVar (now (tree .entry)) at (q .0) (st, now (ws .entry))) ⌝ }
 {
-    let p = tree::payload_at(tree, at);
+    let p = payload::payload_at(tree, at);
     let Payload::Entity(n) = p else {
         return load_temp(tree, at, ws, st, q);
     };
     let s = flag(st, Flags::READS_ACTOR_VARS);
     let e = interning::name(ws, s, n);
-    instr_of(ws, e, 5, 0, q)
+    name_instr(ws, e, 5, 0, q)
 }
 
 // A variable, whatever the operator: the payload tells its kind.
@@ -172,17 +177,17 @@ pub(crate) fn load(tree: &[u8], at: usize, ws: &mut [u32], st: State) -> State
 pub(crate) fn member_put(tree: &[u8], at: usize, ws: &mut [u32], st: State, last: NameRef) -> State
     ensures { λ r. ⌜ _≡_ {A = Held} (r, now (ws .exit)) (R.memberPut (now (tree .entry)) at last (st, now (ws .entry))) ⌝ }
 {
-    let p = tree::payload_at(tree, at);
+    let p = payload::payload_at(tree, at);
     let Payload::Member(n) = p else {
         return builder::failed(ws, st, 7);
     };
     let e = interning::member(ws, st, n, last);
-    put_post_of(tree, at, ws, e, 9)
+    member_put_post(tree, at, ws, e, 9)
 }
 
 pub(crate) fn array_put(tree: &[u8], at: usize, ws: &mut [u32], st: State, n: NameRef) -> State
     ensures { λ r. ⌜ _≡_ {A = Held} (r, now (ws .exit)) (R.arrayPut (now (tree .entry)) at n (st, now (ws .entry))) ⌝ }
 {
     let e = interning::name(ws, st, n);
-    put_post_of(tree, at, ws, e, 8)
+    name_put_post(tree, at, ws, e, 8)
 }

@@ -20,22 +20,20 @@ fn list_all(images: &[u8]) {
             return;
         }
         k += 1;
-        heading(k);
-        at = list_one(images, at);
+        at = list_one(images, at, k);
     }
 }
 
-fn heading(k: u64) {
-    bench::listing::field(b"piece", k);
-}
-
-// The image whose length stands at `at`; where the next begins. One that is cut off is taken as it is.
-fn list_one(images: &[u8], at: usize) -> usize {
+// The image whose length stands at `at`, under its number; where the next begins. One that is cut off is taken as it is.
+fn list_one(images: &[u8], at: usize, k: u64) -> usize {
     let first = past(images, at, 4);
     let count = wire::get_u32(images, at, 0);
     let end = past(images, first, count as usize);
-    list_part(images, first, end);
-    end
+    if bench::listing::field(b"piece", k) && list_part(images, first, end) {
+        return end;
+    }
+    bench::not_written();
+    images.len()
 }
 
 // The place `n` bytes behind `at`, or the end.
@@ -48,10 +46,11 @@ fn past(s: &[u8], at: usize, n: usize) -> usize {
     s.len()
 }
 
-fn list_part(s: &[u8], first: usize, end: usize) {
+fn list_part(s: &[u8], first: usize, end: usize) -> bool {
     if first <= end {
         if end <= s.len() {
-            bench::listing::list(&s[first..end]);
+            return bench::listing::list(&s[first..end]);
         }
     }
+    false
 }

@@ -18,7 +18,7 @@ module _ (inside : ℕ → Bool) (s : List ℕ) where
   row-end n p e h = ap (λ (m : ℕ). row inside s m p e) h
 
   -- a row that is not empty, by the answers of its two tests
-  row-by : (n p e : ℕ) (a b : Bool) → fits s p e ≡ a → inside p ≡ b
+  pub row-by : (n p e : ℕ) (a b : Bool) → fits s p e ≡ a → inside p ≡ b
       → row inside s (suc n) p e ≡ also a (also b (row inside s n (nextAt s p) e))
   unfolding row
   row-by n p e a b h i =

@@ -1,16 +1,18 @@
 // Questions 2 to 4 on a tree image.
 ghost use mathlib.Core.Path.{_≡_};
-ghost use Rattle.ast.specs.Questions.{fits, row, filled, whole, formed, questions};
+ghost use Rattle.ast.specs.Node.{sizeAt};
+ghost use Rattle.ast.specs.Questions.{fits, row, filled, whole, questions};
 
-// The node at `p` is known, holds its own fields, and ends at `end` or before.
-fn fits_at(s: &[u8], p: usize, end: usize) -> bool
+// The node at `p`, whose payload takes `size` bytes, is known, holds its own fields, and ends at `end` or before.
+fn fits_at(s: &[u8], p: usize, size: u16, end: usize) -> bool
+    requires { ⌜ size ≡ sizeAt (now s) p ⌝ }
     ensures { λ r. ⌜ r ≡ fits (now (s .entry)) p end ⌝ }
 {
     let op = tree::op_at(s, p);
     if ast::is_known(op) {
         if tree::kind_at(s, p) <= 12 {
             let len = tree::length_at(s, p) as usize;
-            let own = 12 + (tree::size_at(s, p) as usize);
+            let own = 12 + (size as usize);
             if own <= len {
                 return p <= end && 4 + len <= end - p;
             }
@@ -21,14 +23,15 @@ fn fits_at(s: &[u8], p: usize, end: usize) -> bool
     false
 }
 
-// From `p` on `n` nodes stand one behind the other up to `end`, each right inside to so many levels.
+// From `p` on `n` nodes stand one behind the other up to `end`, each right inside to so many levels. A payload's size is read once; count and children stand behind it.
 fn row_at(s: &[u8], levels: u16, n: u16, p: usize, end: usize) -> bool
     ensures { λ r. ⌜ r ≡ row (filled levels (now (s .entry))) (now (s .entry)) n p end ⌝ }
 {
     if n == 0 {
         return p == end;
     }
-    if fits_at(s, p, end) {
+    let size = tree::size_at(s, p);
+    if fits_at(s, p, size, end) {
         if levels == 0 {
             return false;
         }
@@ -36,8 +39,8 @@ fn row_at(s: &[u8], levels: u16, n: u16, p: usize, end: usize) -> bool
         if row_at(
             s,
             levels - 1,
-            tree::count_at(s, p),
-            tree::first_at(s, p),
+            wire::get_u16(s, p, 14 + size),
+            tree::place(s, p, 16 + (size as usize)),
             next,
         ) {
             return row_at(s, levels, n - 1, next, end);
@@ -62,28 +65,22 @@ fn whole_at(s: &[u8]) -> bool
     false
 }
 
-// No image has more than 383 levels, since a node takes 16 bytes or more.
-fn formed_at(s: &[u8]) -> bool
-    ensures { λ r. ⌜ r ≡ formed (now (s .entry)) ⌝ }
-{
-    if wire::get_u8(s, 0, 5) <= 1 {
-        if wire::get_u8(s, 0, 6) <= 1 {
-            return row_at(s, 383, 1, 7, s.len());
-        }
-        return false;
-    }
-    false
-}
-
 // The number of the first of questions 2 to 4 that is answered by no, else 0.
 pub fn check_image(tree: &[u8]) -> u8
     ensures { λ r. ⌜ r ≡ questions (now (tree .entry)) ⌝ }
 {
     if whole_at(tree) {
-        if formed_at(tree) {
-            if row_at(tree, 64, 1, 7, tree.len()) {
-                return 0;
-            }
+        if 1 < wire::get_u8(tree, 0, 5) {
+            return 3;
+        }
+        if 1 < wire::get_u8(tree, 0, 6) {
+            return 3;
+        }
+        if row_at(tree, 64, 1, 7, tree.len()) {
+            return 0;
+        }
+        // No image has more than 383 levels, since a node takes 16 bytes or more: this pass tells 3 from 4.
+        if row_at(tree, 383, 1, 7, tree.len()) {
             return 4;
         }
         return 3;

@@ -17,10 +17,10 @@ use Rattle.semantics.specs.State.{Item, instr, CallInfo, State, set-pools, set-
 use Rattle.semantics.specs.Pieces.{Lowered, Lowering, aim, flush, put}
 use Rattle.semantics.specs.Lowering.{Lowerings, Arguments, arguments, close-segment, called, fill, pasts}
 use Rattle.semantics.specs.Link.{offsetsOf}
-use Rattle.tree.specs.declared.NameRef.{NameRef}
-use Rattle.tree.specs.Payloads.{named}
+use Rattle.payload.specs.declared.NameRef.{NameRef}
+use Rattle.payload.specs.Payloads.{named}
 use Rattle.card.specs.Layout.{OPEN, CALLS, ARGUMENTS}
-use Rattle.interning.specs.Pools.{after}
+use Rattle.lowering.specs.Pools.{after}
 use Rattle.builder.specs.Segments as T
 use Rattle.builder.specs.Steps.{Held}
 use Rattle.lowering.specs.Parts as L
@@ -30,7 +30,7 @@ use Rattle.representation.proofs.Rows.{Rows, Apart}
 use Rattle.representation.proofs.Represents.{ItemAt, WordAt, places, firstPlace, Filled, CallsFrom, OpenCall, Pending, OpenCallAt, OpenCalls, reservedBy, filled, Abs, Fits, Table, Tables, Content, Moves, Does, run, finishedCode}
 use Rattle.representation.proofs.Keeps.{call-within}
 use Rattle.representation.proofs.Pools.{apart-none}
-use Rattle.representation.proofs.Interning.{TextOf}
+use Rattle.representation.proofs.Entries.{TextOf}
 use Rattle.representation.proofs.OpenCode.{back-code}
 use Rattle.representation.proofs.Targets.{mk, aim-at, length-aimed}
 use Rattle.representation.proofs.Loops.{puts}

@@ -21,9 +21,9 @@ use Rattle.semantics.specs.Payloads as P
 use Rattle.semantics.specs.Pieces.{Lowering, put, failing, flagged, withName, withTemp, withPost, constant, postInstruction, fork, looped, eached, _⨾_}
 use Rattle.semantics.specs.Lowering as D
 use Rattle.semantics.specs.Lowering.{Lowerings}
-use Rattle.tree.specs.declared.NameRef.{NameRef}
-use Rattle.tree.specs.Payloads.{named, payloadRefAt}
-use Rattle.interning.specs.Pools as B
+use Rattle.payload.specs.declared.NameRef.{NameRef}
+use Rattle.payload.specs.Payloads.{named, payloadRefAt}
+use Rattle.lowering.specs.Pools as B
 use Rattle.builder.specs.Steps as W
 use Rattle.builder.specs.Steps.{Held}
 use Rattle.lowering.specs.declared.control.EachVariable.{EachVariable}
@@ -33,7 +33,8 @@ use Rattle.lowering.specs.Parts.{Step, still}
 use Rattle.lowering.specs.Steps as Y
 use Rattle.lowering.specs.Rules as R
 use Rattle.representation.proofs.Represents.{Moves, Does, onState}
-use Rattle.representation.proofs.Interning.{TextOf, name-does, temp-does}
+use Rattle.representation.proofs.Entries.{TextOf}
+use Rattle.representation.proofs.Interning.{name-does, temp-does}
 use Rattle.representation.proofs.Laws.{thens, flagged-does, same-move, handler-move, handler-left}
 use Rattle.representation.proofs.OpenCode.{failing-does}
 use Rattle.representation.proofs.Targets.{Leads}
@@ -42,7 +43,8 @@ use Rattle.representation.proofs.Loops.{loop-does}
 use Rattle.representation.proofs.Each.{each-does}
 use Rattle.representation.proofs.Arguments.{Child, Children}
 use Rattle.representation.proofs.Sound.{NodeSound, Sound, node-sound, name-related, const-same}
-use Rattle.representation.proofs.Stores.{target-same, store-does}
+use Rattle.representation.proofs.TargetRules.{target-same}
+use Rattle.representation.proofs.Stores.{store-does}
 use Rattle.representation.proofs.Kin.{one-rel, some-rel, pair-rel, two-rel, three-rel, one-left, two-left, nothing-move, constant-does, put-post, post-behind, sets-move, not-sets-move}
 
 push-leads : Leads N.handlerPush 35 0 0

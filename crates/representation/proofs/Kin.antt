@@ -18,8 +18,8 @@ use Rattle.semantics.specs.State as S
 use Rattle.semantics.specs.Payloads.{one, two, three, some, just}
 use Rattle.semantics.specs.Pieces.{Lowering, put, nothing, withPost, constant, postInstruction, flagged}
 use Rattle.semantics.specs.Lowering.{Lowerings}
-use Rattle.tree.specs.declared.NameRef.{NameRef}
-use Rattle.interning.specs.Pools as B
+use Rattle.payload.specs.declared.NameRef.{NameRef}
+use Rattle.lowering.specs.Pools as B
 use Rattle.builder.specs.Steps as W
 use Rattle.lowering.specs.Parts as L
 use Rattle.lowering.specs.Parts.{Step, still}

@@ -2,6 +2,7 @@ pub mod Rows
 pub mod Represents
 pub mod Keeps
 pub mod Pools
+pub mod Entries
 pub mod Interning
 pub mod Texts
 pub mod Sound
@@ -16,6 +17,7 @@ pub mod Segments
 pub mod Calls
 pub mod Arguments
 pub mod Queries
+pub mod TargetRules
 pub mod Stores
 pub mod Kin
 pub mod Values

@@ -20,13 +20,13 @@ use Rattle.semantics.specs.Lowering.{Lowerings, arguments, lowerPlain, lowerRul
 use Rattle.semantics.specs.Link.{settings}
 use Rattle.semantics.proofs.SimulatedCalls.{args-grow}
 use Rattle.semantics.proofs.Agreement.{trees-s}
-use Rattle.tree.specs.declared.NameRef.{NameRef}
-use Rattle.tree.specs.Payloads.{named}
+use Rattle.payload.specs.declared.NameRef.{NameRef}
+use Rattle.payload.specs.Payloads.{named}
 use Rattle.lowering.specs.Parts as L
 use Rattle.lowering.specs.Parts.{Step}
 use Rattle.lowering.specs.Rules as R
 use Rattle.representation.proofs.Represents.{Pending, Does}
-use Rattle.representation.proofs.Interning.{TextOf}
+use Rattle.representation.proofs.Entries.{TextOf}
 use Rattle.representation.proofs.OpenCode.{failing-does}
 use Rattle.representation.proofs.Branches.{jump-out}
 use Rattle.representation.proofs.Arguments.{Child, Children}

@@ -20,8 +20,8 @@ use Rattle.semantics.specs.Payloads as P
 use Rattle.semantics.specs.Pieces.{Lowering, put, failing, flagged, withConst, withHash, withPost, postInstruction, pushed, guarded, _⨾_}
 use Rattle.semantics.specs.Lowering as D
 use Rattle.semantics.specs.Lowering.{Lowerings}
-use Rattle.tree.specs.declared.NameRef.{NameRef}
-use Rattle.tree.specs.Payloads.{payloadRefAt}
+use Rattle.payload.specs.declared.NameRef.{NameRef}
+use Rattle.payload.specs.Payloads.{payloadRefAt}
 use Rattle.builder.specs.Steps as W
 use Rattle.lowering.specs.Payloads as Q
 use Rattle.lowering.specs.Parts as L

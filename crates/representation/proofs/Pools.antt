@@ -12,9 +12,9 @@ use borrow.Author.Tests.{lt-ltb, le-ltb}
 use Rattle.semantics.specs.Positions.{slot, intern}
 use Rattle.semantics.proofs.Costs.{weigh}
 use Rattle.semantics.proofs.Sizes.{weigh-length}
-use Rattle.pools.specs.Search.{seek}
-use Rattle.pools.specs.Pools.{appendedCount, appendedWords, internedIndex, internedCount, internedWords}
-use Rattle.pools.proofs.Slots.{same, seek-slot}
+use Rattle.lowering.specs.Search.{seek}
+use Rattle.lowering.specs.Regions.{appendedCount, appendedWords, internedIndex, internedCount, internedWords}
+use Rattle.lowering.proofs.Slots.{same, seek-slot}
 use Rattle.representation.proofs.Rows.{Rows, Local, Apart, rows-agree, rows-snoc, sets-apart, sets-stored}
 use Rattle.representation.proofs.Represents.{Table}
 use Rattle.representation.proofs.Keeps.{agree-below}

@@ -19,7 +19,7 @@ use Rattle.semantics.specs.State.{CallInfo, State, Flags, set-pools, set-calls,
 use Rattle.semantics.specs.Pieces.{Lowering, put, withPost, flagged}
 use Rattle.semantics.specs.Lowering.{Lowerings, Arguments, arguments, called, fill, query, isEmpty}
 use Rattle.semantics.specs.Link.{offsetsOf}
-use Rattle.tree.specs.declared.NameRef.{NameRef}
+use Rattle.payload.specs.declared.NameRef.{NameRef}
 use Rattle.card.specs.Layout.{CALLS, ARGUMENTS}
 use Rattle.builder.specs.declared.State as B
 use Rattle.builder.specs.Steps.{Held}

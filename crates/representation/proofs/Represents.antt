@@ -19,7 +19,7 @@ use Rattle.code.specs.Segments.{BREAK, CONTINUE}
 use Rattle.card.specs.Layout.{OPEN, FINISHED, CONSTS, POSTS, HASHES, NAMES, TEMPS, MEMBERS, STORES, PATHS, CALLS, ARGUMENTS}
 use Rattle.card.specs.Holds.{PostIs, HashIs, NameIs, MemberIs, StoreIs}
 use Rattle.builder.specs.Steps.{Held}
-use Rattle.interning.specs.Pools.{Found}
+use Rattle.lowering.specs.Pools.{Found}
 use Rattle.lowering.specs.Parts.{Step, front}
 use Rattle.representation.proofs.Rows.{Rows}
 

@@ -15,17 +15,17 @@ use Rattle.ast.specs.Node.{lenAt, opAt, kindAt, payloadAt, sizeAt, countAt, fir
 use Rattle.ast.specs.Questions.{fits, row, filled, rooted, whole, formed, shallow, questions}
 use Rattle.ast.proofs.PayloadKinds.{name-kind}
 use Rattle.program.specs.Program.{Counts}
-use Rattle.tree.specs.declared.NameRef.{NameRef}
-use Rattle.tree.specs.declared.Payload.{Payload}
-use Rattle.tree.specs.declared.Payload.the-variants.{None, Float, Hash, Context, Entity, Temp, Member, ArrayVariable, Geometry, Material, Texture, Query, HostMath}
-use Rattle.tree.specs.Payloads.{nameRefAt, payloadRefs, payloadRefAt, named, meant}
-use Rattle.tree.proofs.Meant.{payload-meant}
+use Rattle.payload.specs.declared.NameRef.{NameRef}
+use Rattle.payload.specs.declared.Payload.{Payload}
+use Rattle.payload.specs.declared.Payload.the-variants.{None, Float, Hash, Context, Entity, Temp, Member, ArrayVariable, Geometry, Material, Texture, Query, HostMath}
+use Rattle.payload.specs.Payloads.{nameRefAt, payloadRefs, payloadRefAt, named, meant}
+use Rattle.payload.proofs.Meant.{payload-meant}
 use Rattle.semantics.specs.Payloads as P
 use Rattle.semantics.specs.Pieces.{Lowering}
 use Rattle.lowering.specs.Payloads as Q
 use Rattle.lowering.specs.Parts.{Step}
 use Rattle.representation.proofs.Represents.{Does}
-use Rattle.representation.proofs.Interning.{TextOf}
+use Rattle.representation.proofs.Entries.{TextOf}
 use Rattle.representation.proofs.Texts.{text-at}
 
 -- ---- sound nodes

@@ -6,9 +6,9 @@ use native.Mathlib.Omega.{arith}
 use lib.ListN.{length, getD, drop, length-drop}
 use lib.Seq.{length-take-le, getD-take, getD-drop}
 use Rattle.wire.specs.Bytes.{be8}
-use Rattle.tree.specs.declared.NameRef.{NameRef}
-use Rattle.tree.specs.Payloads.{nameRefAt}
-use Rattle.representation.proofs.Interning.{TextOf}
+use Rattle.payload.specs.declared.NameRef.{NameRef}
+use Rattle.payload.specs.Payloads.{nameRefAt}
+use Rattle.representation.proofs.Entries.{TextOf}
 
 pub text-of : (tree : List ℕ) (r : NameRef) → 1 ≤ r .at → r .at ≤ 4294967296 → getD tree (r .at - 1) 0 ≡ r .len → r .at + r .len ≤ length tree → TextOf tree r
 text-of tree r l u e f =

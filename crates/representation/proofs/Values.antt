@@ -17,9 +17,9 @@ use Rattle.semantics.specs.Payloads as P
 use Rattle.semantics.specs.Pieces.{Lowering, put, failing, flagged, withName, withTemp, withHash, withMember, withPost, constant, _⨾_}
 use Rattle.semantics.specs.Lowering as D
 use Rattle.semantics.specs.Lowering.{Lowerings}
-use Rattle.tree.specs.declared.NameRef.{NameRef}
-use Rattle.tree.specs.Payloads.{named, payloadRefAt}
-use Rattle.interning.specs.Pools as B
+use Rattle.payload.specs.declared.NameRef.{NameRef}
+use Rattle.payload.specs.Payloads.{named, payloadRefAt}
+use Rattle.lowering.specs.Pools as B
 use Rattle.builder.specs.Steps as W
 use Rattle.lowering.specs.Payloads as Q
 use Rattle.lowering.specs.Parts as L
@@ -27,7 +27,8 @@ use Rattle.lowering.specs.Parts.{Step, still}
 use Rattle.lowering.specs.Steps as Y
 use Rattle.lowering.specs.Rules as R
 use Rattle.representation.proofs.Represents.{Moves, Does, onState}
-use Rattle.representation.proofs.Interning.{TextOf, readOf, name-does, temp-does, hash-does, member-does, post-does}
+use Rattle.representation.proofs.Entries.{TextOf, readOf}
+use Rattle.representation.proofs.Interning.{name-does, temp-does, hash-does, member-does, post-does}
 use Rattle.representation.proofs.Laws.{thens, flagged-does}
 use Rattle.representation.proofs.OpenCode.{failing-does}
 use Rattle.representation.proofs.Branches.{instr-does}

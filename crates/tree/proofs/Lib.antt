@@ -1,3 +1,1 @@
 pub mod Kind
-pub mod TextCut
-pub mod Meant

@@ -1,38 +1,9 @@
 // The fields of the node that begins at a place of a tree image. Past the end every byte reads 0, and no place lies past the end.
 ghost use mathlib.Core.Path.{_≡_};
-ghost use Prim.Native.Nat.{_<_, _≤_, min};
+ghost use Prim.Native.Nat.{_<_, _≤_};
 ghost use lib.ListN.{length};
 ghost use Rattle.wire.specs.Bytes.{reach};
 ghost use Rattle.ast.specs.Node.{lenAt, opAt, scaleAt, offsetAt, kindAt, sizeOf, sizeAt, countAt, firstAt, nextAt};
-ghost use Rattle.tree.specs.Payloads.{nameRefAt, payloadRefAt};
-
-// A name: its hash, and where its text lies in the image.
-pub struct NameRef {
-    pub hash: u64,
-    pub at: usize,
-    pub len: usize,
-}
-
-pub struct QueryRef {
-    pub index: u16,
-    pub impl_idx: u8,
-}
-
-pub enum Payload {
-    None,
-    Float(u32),
-    Hash(u64),
-    Context(NameRef),
-    Entity(NameRef),
-    Temp(NameRef),
-    Member(NameRef),
-    ArrayVariable(NameRef),
-    Geometry(NameRef),
-    Material(NameRef),
-    Texture(NameRef),
-    Query(QueryRef),
-    HostMath(u16),
-}
 
 // The length of the node's rest.
 pub fn length_at(s: &[u8], p: usize) -> u32
@@ -69,62 +40,14 @@ pub fn kind_at(s: &[u8], p: usize) -> u8
     wire::get_u8(s, p, 13)
 }
 
-fn place(s: &[u8], p: usize, k: usize) -> usize
+// The place `k` bytes behind `p`, or the end.
+pub fn place(s: &[u8], p: usize, k: usize) -> usize
     ensures { λ r. ⌜ (r ≡ reach (now (s .entry)) p k) × (r ≤ length (now (s .entry))) ⌝ }
 {
     if s.len() <= p {
         return s.len();
     }
     if k <= s.len() - p { p + k } else { s.len() }
-}
-
-fn least(a: usize, b: usize) -> usize
-    ensures { λ r. ⌜ r ≡ min a b ⌝ }
-{
-    if a <= b { a } else { b }
-}
-
-fn wide(b: u8) -> usize
-    ensures { λ r. ⌜ r ≡ b ⌝ }
-{
-    b as usize
-}
-
-fn name_at(s: &[u8], p: usize) -> NameRef
-    ensures { λ r. ⌜ r ≡ nameRefAt (now (s .entry)) p ⌝ }
-{
-    let hash = wire::get_u64(s, p, 14);
-    let at = place(s, p, 23);
-    let len = least(wide(wire::get_u8(s, p, 22)), s.len() - at);
-    NameRef { hash, at, len }
-}
-
-// The payload; None where the kind is unknown.
-pub fn payload_at(s: &[u8], p: usize) -> Payload
-    ensures { λ r. ⌜ r ≡ payloadRefAt (now (s .entry)) p ⌝ }
-{
-    match kind_at(s, p) {
-        0 => Payload::None,
-        1 => Payload::Float(wire::get_u32(s, p, 14)),
-        2 => Payload::Hash(wire::get_u64(s, p, 14)),
-        3 => Payload::Context(name_at(s, p)),
-        4 => Payload::Entity(name_at(s, p)),
-        5 => Payload::Temp(name_at(s, p)),
-        6 => Payload::Member(name_at(s, p)),
-        7 => Payload::ArrayVariable(name_at(s, p)),
-        8 => Payload::Geometry(name_at(s, p)),
-        9 => Payload::Material(name_at(s, p)),
-        10 => Payload::Texture(name_at(s, p)),
-        11 => {
-            let q = QueryRef {
-                index: wire::get_u16(s, p, 14),
-                impl_idx: wire::get_u8(s, p, 16),
-            };
-            Payload::Query(q)
-        }
-        12 => Payload::HostMath(wire::get_u16(s, p, 14)),
-        _ => Payload::None,
-    }
 }
 
 fn size_of(kind: u8, text: u8) -> u16

@@ -1,4 +1,3 @@
-pub mod Written
 pub mod ReadBack
 pub mod Numbers
 pub mod Stores

@@ -1,9 +1,7 @@
-// Big-endian numbers in bytes: read and written. Past the end a byte reads 0, and nothing is written.
+// Big-endian numbers read in bytes. Past the end a byte reads 0.
 ghost use mathlib.Core.Path.{_≡_};
-ghost use mathlib.Core.List.{[], _∷_};
-ghost use Prim.Native.Nat.{_+_, _*_, _/_, _%_, _≤_};
-ghost use lib.Seq.{sets};
-ghost use Rattle.wire.specs.Bytes.{be8, be16, be32, be64, be};
+ghost use Prim.Native.Nat.{_+_, _*_, _≤_};
+ghost use Rattle.wire.specs.Bytes.{be8, be16, be32, be64};
 
 // The byte at `p + k`.
 pub fn get_u8(s: &[u8], p: usize, k: u32) -> u8
@@ -70,74 +68,4 @@ pub fn get_u64(s: &[u8], p: usize, k: u16) -> u64
 {
     let i = k as u32;
     joined(word(s, p, i), word(s, p, i + 4))
-}
-
-// The byte at `at`, if there is such a place.
-pub fn put_u8(out: &mut [u8], at: usize, n: u8)
-    ensures { λ _. ⌜ now (out .exit) ≡ sets (now (out .entry)) at (be 1 n []) ⌝ }
-{
-    if at < out.len() {
-        out[at] = n;
-    }
-}
-
-fn put_two(out: &mut [u8], at: usize, a: u8, b: u8)
-    ensures { λ _. ⌜ now (out .exit) ≡ sets (now (out .entry)) at (a ∷ b ∷ []) ⌝ }
-{
-    if at < out.len() {
-        put_u8(out, at, a);
-        put_u8(out, at + 1, b);
-    }
-}
-
-fn put_four(out: &mut [u8], at: usize, a: u8, b: u8, c: u8, d: u8)
-    ensures { λ _. ⌜ now (out .exit) ≡ sets (now (out .entry)) at (a ∷ b ∷ c ∷ d ∷ []) ⌝ }
-{
-    if at < out.len() {
-        put_two(out, at, a, b);
-        put_two(out, at + 2, c, d);
-    }
-}
-
-fn high(n: u64) -> u32
-    ensures { λ r. ⌜ r ≡ n / 4294967296 ⌝ }
-{
-    (n / 4294967296) as u32
-}
-
-fn low(n: u64) -> u32
-    ensures { λ r. ⌜ r ≡ n % 4294967296 ⌝ }
-{
-    (n % 4294967296) as u32
-}
-
-// Two bytes from `at` on, the high one first.
-pub fn put_u16(out: &mut [u8], at: usize, n: u16)
-    ensures { λ _. ⌜ now (out .exit) ≡ sets (now (out .entry)) at (be 2 n []) ⌝ }
-{
-    put_two(out, at, (n / 256) as u8, (n % 256) as u8);
-}
-
-// Four bytes from `at` on, the highest first.
-pub fn put_u32(out: &mut [u8], at: usize, n: u32)
-    ensures { λ _. ⌜ now (out .exit) ≡ sets (now (out .entry)) at (be 4 n []) ⌝ }
-{
-    put_four(
-        out,
-        at,
-        (n / 16777216) as u8,
-        (n / 65536 % 256) as u8,
-        (n / 256 % 256) as u8,
-        (n % 256) as u8,
-    );
-}
-
-// Eight bytes from `at` on, the highest first.
-pub fn put_u64(out: &mut [u8], at: usize, n: u64)
-    ensures { λ _. ⌜ now (out .exit) ≡ sets (now (out .entry)) at (be 8 n []) ⌝ }
-{
-    if at < out.len() {
-        put_u32(out, at, high(n));
-        put_u32(out, at + 4, low(n));
-    }
 }

@@ -12,11 +12,6 @@ use Rattle.builder.proofs.put_const.Tie as tie
 use Rattle.builder.proofs.put_const.Reads as reads
 use Rattle.builder.proofs.put_const.Lts as lts
 use Rattle.builder.proofs.emit.Reads as emit-reads
-use Rattle.builder.proofs.wide.Reads as wide-reads
-
--- src/lib.rt:65:41
-wide-requires : tie.Need-wide-requires
-wide-requires c κs = search needs
 
 -- src/lib.rt:65:9
 emit-requires : tie.Need-emit-requires
@@ -29,11 +24,7 @@ same-length c = search needs
 -- src/lib.rt:65:9
 returns : tie.Need-returns
 unfolding putConst
-returns c = rw (c .before .before .before .before .before .if1 .taken, ← c .before .before .before .wide .ensures) (c .before .before .emit .ensures)
-
--- src/lib.rt:67:31
-wide-requires-2 : tie.Need-wide-requires-2
-wide-requires-2 c κs = search needs
+returns c = rw (c .before .before .before .before .if1 .taken) (c .before .before .emit .ensures)
 
 -- src/lib.rt:67:5
 emit-requires-2 : tie.Need-emit-requires-2
@@ -46,17 +37,15 @@ same-length-2 c = search needs
 -- src/lib.rt:59:1
 returns-2 : tie.Need-returns-2
 unfolding putConst
-returns-2 c = _∙_ {A = Held} (c .before .before .emit2 .ensures) (ap (λ (k : ℕ). emitted 0x0100_0000 k (c .before .before .before .before .before .before .before .args .st, c .before .before .before .before .before .before .before .args .ws .now)) (c .before .before .before .wide2 .ensures) ∙ sym (chosen-no {A = Held} _ _ _ (c .before .before .before .before .before .if1 .left)))
+returns-2 c = _∙_ {A = Held} (c .before .before .emit2 .ensures) (sym (chosen-no {A = Held} _ _ _ (c .before .before .before .before .if1 .left)))
 
 pub put-const-spec : {M : Type 1} → statement M
 put-const-spec =
     tie.close
     (tie.spec
-    wide-requires
     emit-requires
     same-length
     returns
-    wide-requires-2
     emit-requires-2
     same-length-2
     returns-2)

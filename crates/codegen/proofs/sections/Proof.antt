@@ -10,7 +10,7 @@ use Rattle.builder.specs.Steps.{Held}
 use Rattle.representation.specs.Sections.{inLoop, sectionsOf}
 use Rattle.codegen.specs.declared.Answer.{Answer}
 use Rattle.codegen.specs.Build.{shown, packed, told, zeros, Built, Packed, Asked}
-use Rattle.codegen.proofs.Outcome.{all-bytes, refused-early, refused-late, accepted, all-cleared, built, too-short}
+use Rattle.codegen.proofs.Outcome.{all-bytes, refused-early, refused-late, accepted, all-zero, built, too-short}
 use borrow.Author.Needs.{needs}
 use Rattle.codegen.proofs.sections.Statement.{statement}
 use Rattle.codegen.proofs.sections.Tie as tie

@@ -19,9 +19,6 @@ returns c = tt
 add-k : tie.Need-add-k Inv-loop μ-loop
 add-k c = omega arith
 
-heading-requires : tie.Need-heading-requires Inv-loop μ-loop
-heading-requires c κs = tt
-
 list-one-requires : tie.Need-list-one-requires Inv-loop μ-loop
 list-one-requires c κs = tt
 
@@ -35,4 +32,4 @@ returns-2 : tie.Need-returns-2 Inv-loop μ-loop
 returns-2 c = tt
 
 pub list-all-spec : {M : Type 1} → statement M
-list-all-spec = tie.close (tie.spec Inv-loop μ-loop loop-holds returns add-k heading-requires list-one-requires loop-less loop-again returns-2)
+list-all-spec = tie.close (tie.spec Inv-loop μ-loop loop-holds returns add-k list-one-requires loop-less loop-again returns-2)

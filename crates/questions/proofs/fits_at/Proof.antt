@@ -27,12 +27,6 @@ length-at-requires c κs = search needs
 cast-len : tie.Need-cast-len
 cast-len c = search needs
 
-size-at-requires : tie.Need-size-at-requires
-size-at-requires c κs = search needs
-
-cast-own : tie.Need-cast-own
-cast-own c = search needs
-
 add-own : tie.Need-add-own
 add-own c = search needs
 
@@ -41,16 +35,16 @@ add-result c = search needs
 
 returns : tie.Need-returns
 returns c =
-    let a = c .before .before .before .before .before .before .before .before .before .before .args in
+    let a = c .before .before .before .before .before .before .before .before .before .args in
     let s : List ℕ = a .s .now in
     let k : known (opAt s (a .p)) ≡ true = cc in
     let d : kindAt s (a .p) ≤ 12 = omega arith in
     let o : 12 + sizeAt s (a .p) ≤ lenAt s (a .p) = omega arith in
-    ap (λ (l : ℕ). leb (4 + l) (a .end - a .p)) (c .before .before .before .length-at .ensures) ∙ leb-sub (a .p) (4 + lenAt s (a .p)) (a .end) (omega arith) ∙ ending s (a .p) (a .end) k d o
+    ap (λ (l : ℕ). leb (4 + l) (a .end - a .p)) (c .before .before .length-at .ensures) ∙ leb-sub (a .p) (4 + lenAt s (a .p)) (a .end) (omega arith) ∙ ending s (a .p) (a .end) k d o
 
 returns-2 : tie.Need-returns-2
 returns-2 c =
-    let a = c .before .before .before .before .before .before .before .before .before .before .args in
+    let a = c .before .before .before .before .before .before .before .before .before .args in
     let s : List ℕ = a .s .now in
     let k : known (opAt s (a .p)) ≡ true = cc in
     let d : kindAt s (a .p) ≤ 12 = omega arith in
@@ -59,7 +53,7 @@ returns-2 c =
 
 returns-3 : tie.Need-returns-3
 returns-3 c =
-    let a = c .before .before .before .before .before .before .before .before .before .args in
+    let a = c .before .before .before .before .before .before .before .before .args in
     let s : List ℕ = a .s .now in
     let k : known (opAt s (a .p)) ≡ true = cc in
     short s (a .p) (a .end) k (omega arith) (omega arith)
@@ -87,8 +81,6 @@ fits-at-spec =
     kind-at-requires
     length-at-requires
     cast-len
-    size-at-requires
-    cast-own
     add-own
     add-result
     returns

@@ -16,6 +16,9 @@ loop-holds c = tt
 instruction-requires : tie.Need-instruction-requires Inv-loop μ-loop
 instruction-requires c κs = tt
 
+returns : tie.Need-returns Inv-loop μ-loop
+returns c = tt
+
 add-i : tie.Need-add-i Inv-loop μ-loop
 add-i c = omega arith
 
@@ -25,8 +28,8 @@ loop-less c = omega arith
 loop-again : tie.Need-loop-again Inv-loop μ-loop
 loop-again c = tt
 
-returns : tie.Need-returns Inv-loop μ-loop
-returns c = tt
+returns-2 : tie.Need-returns-2 Inv-loop μ-loop
+returns-2 c = tt
 
 pub instructions-spec : {M : Type 1} → statement M
-instructions-spec = tie.close (tie.spec Inv-loop μ-loop loop-holds instruction-requires add-i loop-less loop-again returns)
+instructions-spec = tie.close (tie.spec Inv-loop μ-loop loop-holds instruction-requires returns add-i loop-less loop-again returns-2)

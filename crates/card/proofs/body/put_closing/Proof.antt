@@ -22,7 +22,7 @@ same-length c = search needs
 
 returns : tie.Need-returns
 unfolding closingBytes
-returns c = (being (join (join (c .before .before .before .before .before .before .before .before .before .before .before .put-depths .ensures .0) (c .before .before .before .before .before .before .before .put-half .ensures .0)) (c .before .before .put-byte .ensures .0)) cc, omega arith)
+returns c = (being (join (join (c .before .before .before .before .before .before .before .before .before .before .before .put-depths .ensures .0) (c .before .before .before .before .before .before .before .put-half .ensures .0)) (c .before .before .put-byte .ensures .0)) (rw (c .before .before .before .before .number .ensures)), omega arith)
 
 pub put-closing-spec : {M : Type 1} → statement M
 put-closing-spec = tie.close (tie.spec put-depths-requires put-half-requires number-requires put-byte-requires same-length returns)

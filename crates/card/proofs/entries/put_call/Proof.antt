@@ -32,7 +32,7 @@ same-length : tie.Need-same-length
 same-length c = search needs
 
 returns : tie.Need-returns
-returns c = (being (c .before .before .put-call-of .ensures .0) cc, omega arith)
+returns c = (being (c .before .before .put-call-of .ensures .0) (rw (c .before .before .before .before .before .before .before .word-at .ensures, c .before .before .before .before .before .before .word-at2 .ensures, c .before .before .before .before .before .word-at3 .ensures, c .before .before .before .before .word-at4 .ensures)), omega arith)
 
 pub put-call-spec : {M : Type 1} → statement M
 put-call-spec = tie.close (tie.spec word-at-requires add-word-at word-at-requires-2 add-word-at-2 word-at-requires-3 add-word-at-3 word-at-requires-4 put-call-of-requires same-length returns)

@@ -34,7 +34,7 @@ same-length c = search needs
 
 returns : tie.Need-returns
 unfolding dottedBytes
-returns c = (being (join (join (c .before .before .before .before .before .before .before .before .before .before .put-half .ensures .0) (c .before .before .before .before .before .before .put-byte .ensures .0)) (c .before .before .put-bytes .ensures .0)) cc, omega arith)
+returns c = (being (join (join (c .before .before .before .before .before .before .before .before .before .before .put-half .ensures .0) (c .before .before .before .before .before .before .put-byte .ensures .0)) (c .before .before .put-bytes .ensures .0)) (rw (c .before .before .before .before .before .before .before .before .before .before .before .before .get-u8 .ensures)), omega arith)
 
 pub put-dotted-spec : {M : Type 1} → statement M
 put-dotted-spec = tie.close (tie.spec get-u8-requires cast-put-half add-put-half put-half-requires put-byte-requires add-put-bytes cast-put-bytes put-bytes-requires same-length returns)

@@ -23,7 +23,7 @@ same-length : tie.Need-same-length
 same-length c = search needs
 
 returns : tie.Need-returns
-returns c = (being (join (c .before .before .before .before .before .before .put-word .ensures .0) (c .before .before .put-word2 .ensures .0)) cc, omega arith)
+returns c = (being (join (c .before .before .before .before .before .before .put-word .ensures .0) (c .before .before .put-word2 .ensures .0)) (rw (c .before .before .before .before .before .before .before .before .before .word-at .ensures, c .before .before .before .before .before .before .before .before .word-at2 .ensures)), omega arith)
 
 pub put-hash-spec : {M : Type 1} → statement M
 put-hash-spec = tie.close (tie.spec word-at-requires add-word-at word-at-requires-2 put-word-requires put-word-requires-2 same-length returns)

@@ -40,7 +40,7 @@ same-length c = search needs
 
 returns : tie.Need-returns
 unfolding instructionBytes
-returns c = (being (join (join (join (c .before .before .before .before .before .before .before .before .before .before .before .before .before .before .put-byte .ensures .0) (c .before .before .before .before .before .before .before .before .before .before .put-byte2 .ensures .0)) (c .before .before .before .before .before .before .put-word .ensures .0)) (c .before .before .put-half .ensures .0)) cc, omega arith)
+returns c = (being (join (join (join (c .before .before .before .before .before .before .before .before .before .before .before .before .before .before .put-byte .ensures .0) (c .before .before .before .before .before .before .before .before .before .before .put-byte2 .ensures .0)) (c .before .before .before .before .before .before .put-word .ensures .0)) (c .before .before .put-half .ensures .0)) (rw (c .before .before .before .before .before .before .before .before .before .before .before .before .before .before .before .before .plus .ensures, c .before .before .before .before .before .before .before .before .before .before .before .before .before .before .before .before .before .shift .ensures)), omega arith)
 
 pub put-instruction-spec : {M : Type 1} → statement M
 put-instruction-spec = tie.close (tie.spec cast-shift shift-requires plus-requires cast-put-byte put-byte-requires cast-put-byte-2 put-byte-requires-2 put-word-requires cast-put-half put-half-requires same-length returns)

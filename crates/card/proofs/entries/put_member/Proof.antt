@@ -31,7 +31,7 @@ same-length c = search needs
 
 returns : tie.Need-returns
 unfolding memberBytes
-returns c = (being (join (join (c .before .before .before .before .before .before .before .before .before .before .put-hash .ensures .0) (c .before .before .before .before .before .before .put-dotted .ensures .0)) (c .before .before .put-dotted2 .ensures .0)) cc, omega arith)
+returns c = (being (join (join (c .before .before .before .before .before .before .before .before .before .before .put-hash .ensures .0) (c .before .before .before .before .before .before .put-dotted .ensures .0)) (c .before .before .put-dotted2 .ensures .0)) (rw (c .before .before .before .before .before .before .before .before .before .before .before .before .before .word-at .ensures, c .before .before .before .before .before .before .before .before .before .before .before .before .word-at2 .ensures)), omega arith)
 
 pub put-member-spec : {M : Type 1} → statement M
 put-member-spec = tie.close (tie.spec add-word-at word-at-requires add-word-at-2 word-at-requires-2 put-hash-requires put-dotted-requires put-dotted-requires-2 same-length returns)

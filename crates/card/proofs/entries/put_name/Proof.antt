@@ -22,7 +22,7 @@ same-length c = search needs
 
 returns : tie.Need-returns
 unfolding nameBytes
-returns c = (being (join (c .before .before .before .before .before .before .put-hash .ensures .0) (c .before .before .put-text .ensures .0)) cc, omega arith)
+returns c = (being (join (c .before .before .before .before .before .before .put-hash .ensures .0) (c .before .before .put-text .ensures .0)) (rw (c .before .before .before .before .before .before .before .before .word-at .ensures)), omega arith)
 
 pub put-name-spec : {M : Type 1} → statement M
 put-name-spec = tie.close (tie.spec add-word-at word-at-requires put-hash-requires put-text-requires same-length returns)

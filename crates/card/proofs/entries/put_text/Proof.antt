@@ -28,7 +28,7 @@ same-length c = search needs
 
 returns : tie.Need-returns
 unfolding textBytes
-returns c = (being (join (c .before .before .before .before .before .before .put-half .ensures .0) (c .before .before .put-bytes .ensures .0)) cc, omega arith)
+returns c = (being (join (c .before .before .before .before .before .before .put-half .ensures .0) (c .before .before .put-bytes .ensures .0)) (rw (c .before .before .before .before .before .before .before .before .get-u8 .ensures)), omega arith)
 
 pub put-text-spec : {M : Type 1} → statement M
 put-text-spec = tie.close (tie.spec get-u8-requires cast-put-half put-half-requires add-put-bytes cast-put-bytes put-bytes-requires same-length returns)

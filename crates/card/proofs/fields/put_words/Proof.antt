@@ -35,7 +35,7 @@ loop-less : tie.Need-loop-less Inv-loop μ-loop
 loop-less c = omega arith
 
 loop-again : tie.Need-loop-again Inv-loop μ-loop
-loop-again c = (omega arith, more _ (c .before .before .before .before .before .before .before .loop .inv .1) (being (c .before .before .put-word .ensures .0) cc), omega arith)
+loop-again c = (omega arith, more _ (c .before .before .before .before .before .before .before .loop .inv .1) (being (c .before .before .put-word .ensures .0) (rw (c .before .before .before .before .plus .ensures, c .before .before .before .before .before .word-at .ensures))), omega arith)
 
 same-length : tie.Need-same-length Inv-loop μ-loop
 same-length c = kept (c .before .loop .inv .1)

@@ -7,11 +7,13 @@ use lib.ListN.{length, getD, set}
 use borrow.Author.Tests.{le-leb, lt-leb, eq-eqb, ne-eqb}
 use Rattle.code.specs.Segments.{emitted, emittedTop, targeted, aimedOne, aimedRange, relocatedOne, relocatedRange, moved, movedCount, BREAK, CONTINUE}
 use Rattle.code.proofs.Runs.{pair-written, aim-on, aim-end, move-on, move-end, aim-next, move-next}
+use Rattle.code.proofs.Idle.{idle-next}
 use Rattle.code.proofs.segment.aim.Statement.{statement}
 use Rattle.code.proofs.segment.aim.Tie as tie
 use Rattle.code.proofs.segment.aim.Reads as reads
 use Rattle.code.proofs.segment.aim.Lts as lts
 use Rattle.code.proofs.segment.aim_one.Reads as aim-one-reads
+use Rattle.code.proofs.segment.eight_idle.Reads as eight-idle-reads
 use Rattle.code.proofs.segment.wide.Reads as wide-reads
 
 abbrev Inv-loop : tie.InvT-loop
@@ -20,39 +22,45 @@ Inv-loop ws₀ from count check cleanup at₀ left₀ ws at left = (at + left �
 abbrev μ-loop : tie.MeasureT-loop
 μ-loop ws₀ from count check cleanup at₀ left₀ ws at left = left
 
--- src/segment.rt:79:9
 wide-requires : tie.Need-wide-requires Inv-loop μ-loop
 wide-requires c κs = search needs
 
--- src/segment.rt:81:5
 loop-holds : tie.Need-loop-holds Inv-loop μ-loop
 loop-holds c = (omega (arith, c .wide .ensures .1), refl, ap (λ (j : ℕ). aimedRange (c .before .before .args .ws .now) j (c .before .before .args .count) (c .before .before .args .check) (c .before .before .args .cleanup)) (c .wide .ensures .0))
 
--- src/segment.rt:82:9
-aim-one-requires : tie.Need-aim-one-requires Inv-loop μ-loop
-aim-one-requires c κs = search needs
+eight-idle-requires : tie.Need-eight-idle-requires Inv-loop μ-loop
+eight-idle-requires c κs = search needs
 
--- src/segment.rt:83:9
 add-at : tie.Need-add-at Inv-loop μ-loop
 add-at c = search needs
 
--- src/segment.rt:84:9
 sub-left : tie.Need-sub-left Inv-loop μ-loop
-sub-left c = search needs
+sub-left c = omega (arith, c .before .eight-idle .ensures (c .if1 .taken) .0)
 
--- src/segment.rt:81:5
 loop-less : tie.Need-loop-less Inv-loop μ-loop
-loop-less c = search needs
+loop-less c = omega (arith, c .before .eight-idle .ensures (c .if1 .taken) .0)
 
--- src/segment.rt:81:5
 loop-again : tie.Need-loop-again Inv-loop μ-loop
-loop-again c = (omega arith, c .before .before .aim-one .kept .0 ∙ c .before .before .before .before .before .loop .inv .1, aim-next (c .before .before .before .before .before .loop .ws) _ _ _ _ _ _ (c .before .before .aim-one .ensures) (c .before .before .before .before .loop-test .taken) refl (omega arith) (c .before .before .before .before .before .loop .inv .2))
+loop-again c = (omega (arith, c .before .eight-idle .ensures (c .if1 .taken) .0), c .before .before .before .before .loop .inv .1, idle-next (c .before .before .before .before .loop .ws) _ _ _ _ 8 (c .before .eight-idle .ensures (c .if1 .taken) .0) (c .before .eight-idle .ensures (c .if1 .taken) .1) (c .before .before .before .before .loop .inv .2))
 
--- src/segment.rt:76:1
+aim-one-requires : tie.Need-aim-one-requires Inv-loop μ-loop
+aim-one-requires c κs = search needs
+
+add-at-2 : tie.Need-add-at-2 Inv-loop μ-loop
+add-at-2 c = search needs
+
+sub-left-2 : tie.Need-sub-left-2 Inv-loop μ-loop
+sub-left-2 c = search needs
+
+loop-less-2 : tie.Need-loop-less-2 Inv-loop μ-loop
+loop-less-2 c = search needs
+
+loop-again-2 : tie.Need-loop-again-2 Inv-loop μ-loop
+loop-again-2 c = (omega arith, c .before .before .aim-one .kept .0 ∙ c .before .before .before .before .before .before .before .before .loop .inv .1, aim-next (c .before .before .before .before .before .before .before .before .loop .ws) _ _ _ _ _ _ (c .before .before .aim-one .ensures) (c .before .before .before .before .before .before .before .loop-test .taken) refl (omega arith) (c .before .before .before .before .before .before .before .before .loop .inv .2))
+
 same-length : tie.Need-same-length Inv-loop μ-loop
 same-length c = c .before .loop .inv .1
 
--- src/segment.rt:76:1
 returns : tie.Need-returns Inv-loop μ-loop
 returns c = sym (aim-end _ _ _ _ _ (omega arith)) ∙ c .before .loop .inv .2
 
@@ -64,10 +72,15 @@ aim-spec =
     μ-loop
     wide-requires
     loop-holds
-    aim-one-requires
+    eight-idle-requires
     add-at
     sub-left
     loop-less
     loop-again
+    aim-one-requires
+    add-at-2
+    sub-left-2
+    loop-less-2
+    loop-again-2
     same-length
     returns)

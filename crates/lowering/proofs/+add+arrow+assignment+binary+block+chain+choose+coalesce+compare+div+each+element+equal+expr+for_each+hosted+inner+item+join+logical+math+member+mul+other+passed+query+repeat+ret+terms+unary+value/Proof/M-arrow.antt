@@ -33,7 +33,7 @@ module _ (t : ℕ) where
   first-at-requires c κs = tt
 
   expr-requires : arrow-lts.Need-expr-requires (arrow-claims t) (arrow-at t) arrow.Post
-  expr-requires c κs = (omega (arith, c .before .before .before .before .before .before .before .before .before .before .before .before .before .pre .0), tt)
+  expr-requires c κs = (omega (arith, c .before .before .before .before .before .before .before .before .before .before .before .before .before .before .pre .0), tt)
 
   guard-requires : arrow-lts.Need-guard-requires (arrow-claims t) (arrow-at t) arrow.Post
   guard-requires c κs = tt
@@ -42,7 +42,7 @@ module _ (t : ℕ) where
   next-at-requires c κs = tt
 
   expr-requires-2 : arrow-lts.Need-expr-requires-2 (arrow-claims t) (arrow-at t) arrow.Post
-  expr-requires-2 c κs = (omega (arith, c .before .before .before .before .before .before .before .before .before .before .before .before .before .before .before .before .before .before .before .before .before .before .before .pre .0), tt)
+  expr-requires-2 c κs = (omega (arith, c .before .before .before .before .before .before .before .before .before .before .before .before .before .before .before .before .before .before .before .before .before .before .before .before .pre .0), tt)
 
   instr-requires : arrow-lts.Need-instr-requires (arrow-claims t) (arrow-at t) arrow.Post
   instr-requires c κs = tt
@@ -51,10 +51,10 @@ module _ (t : ℕ) where
   land-requires c κs = tt
 
   same-length-2 : arrow-lts.Need-same-length-2 (arrow-claims t) (arrow-at t) arrow.Post
-  same-length-2 c = c .before .before .land .kept .0 ∙ c .before .before .before .before .before .before .instr .kept .0 ∙ c .before .before .before .before .before .before .before .before .before .before .expr2 .kept .1 .1 .0 ∙ c .before .before .before .before .before .before .before .before .before .before .before .before .before .before .before .before .guard .kept .0 ∙ c .before .before .before .before .before .before .before .before .before .before .before .before .before .before .before .before .before .before .before .before .expr .kept .1 .1 .0 ∙ c .before .before .before .before .before .before .before .before .before .before .before .before .before .before .before .before .before .before .before .before .before .before .before .before .before .before .post .kept .1 .1 .0
+  same-length-2 c = c .before .before .land .kept .0 ∙ c .before .before .before .before .before .before .instr .kept .0 ∙ c .before .before .before .before .before .before .before .before .before .before .expr2 .kept .1 .1 .0 ∙ c .before .before .before .before .before .before .before .before .before .before .before .before .before .before .before .before .guard .kept .0 ∙ c .before .before .before .before .before .before .before .before .before .before .before .before .before .before .before .before .before .before .before .before .expr .kept .1 .1 .0 ∙ c .before .before .before .before .before .before .before .before .before .before .before .before .before .before .before .before .before .before .before .before .before .before .before .before .before .before .before .post .kept .1 .1 .0
 
   returns-2 : arrow-lts.Need-returns-2 (arrow-claims t) (arrow-at t) arrow.Post
-  returns-2 c = pointer-all _ _ _ _ _ _ _ (c .before .before .before .before .before .before .before .before .before .before .before .before .before .before .before .before .before .before .before .before .before .before .before .before .before .before .before .before .before .before .before .not-float-only .ensures) (c .before .before .before .before .before .before .before .before .before .before .before .before .before .before .before .before .before .before .before .before .before .before .before .before .before .before .before .before .before .before .flag .ensures) (c .before .before .before .before .before .before .before .before .before .before .before .before .before .before .before .before .before .before .before .before .before .before .before .before .before .before .before .before .before .count-at .ensures) (c .before .before .before .before .before .before .before .before .before .before .before .before .before .before .before .before .before .before .before .before .before .before .before .before .before .before .before .before .if1 .left) (c .before .before .before .before .before .before .before .before .before .before .before .before .before .before .before .before .before .before .before .before .before .before .before .before .before .before .post .ensures) (c .before .before .before .before .before .before .before .before .before .before .before .before .before .before .before .before .before .before .before .before .before .before .first-at .ensures .0) (c .before .before .before .before .before .before .before .before .before .before .before .before .before .before .before .before .before .before .before .before .expr .ensures) (c .before .before .before .before .before .before .before .before .before .before .before .before .before .before .before .before .guard .ensures) (c .before .before .before .before .before .before .before .before .before .before .before .before .next-at .ensures .0) (c .before .before .before .before .before .before .before .before .before .before .expr2 .ensures) (c .before .before .before .before .before .before .instr .ensures) (c .before .before .land .ensures)
+  returns-2 c = pointer-all _ _ _ _ _ _ _ (c .before .before .before .before .before .before .before .before .before .before .before .before .before .before .before .before .before .before .before .before .before .before .before .before .before .before .before .before .before .before .before .before .not-float-only .ensures) (c .before .before .before .before .before .before .before .before .before .before .before .before .before .before .before .before .before .before .before .before .before .before .before .before .before .before .before .before .before .before .before .flag .ensures) (c .before .before .before .before .before .before .before .before .before .before .before .before .before .before .before .before .before .before .before .before .before .before .before .before .before .before .before .before .before .before .count-at .ensures) (c .before .before .before .before .before .before .before .before .before .before .before .before .before .before .before .before .before .before .before .before .before .before .before .before .before .before .before .before .before .if1 .left) (c .before .before .before .before .before .before .before .before .before .before .before .before .before .before .before .before .before .before .before .before .before .before .before .before .before .before .before .post .ensures) (c .before .before .before .before .before .before .before .before .before .before .before .before .before .before .before .before .before .before .before .before .before .before .first-at .ensures .0) (c .before .before .before .before .before .before .before .before .before .before .before .before .before .before .before .before .before .before .before .before .expr .ensures) (c .before .before .before .before .before .before .before .before .before .before .before .before .before .before .before .before .guard .ensures) (c .before .before .before .before .before .before .before .before .before .before .before .before .next-at .ensures .0) (c .before .before .before .before .before .before .before .before .before .before .expr2 .ensures) (c .before .before .before .before .before .before .instr .ensures) (c .before .before .land .ensures)
 
   pub arrow-part : {M : Type 1} → arrow-lts.Closed (arrow-claims t) (arrow-at t) arrow.Post M
   arrow-part = arrow-lts.spec (arrow-claims t) (arrow-at t) arrow.Post not-float-only-requires flag-requires count-at-requires failed-requires same-length returns post-requires first-at-requires expr-requires guard-requires next-at-requires expr-requires-2 instr-requires land-requires same-length-2 returns-2

@@ -27,19 +27,19 @@ module _ (t : ℕ) where
   first-at-requires c κs = tt
 
   expr-requires : compare-lts.Need-expr-requires (compare-claims t) (compare-at t) compare.Post
-  expr-requires c κs = (omega (arith, c .before .before .before .before .before .before .before .before .before .before .before .before .pre .0), tt)
+  expr-requires c κs = (omega (arith, c .before .before .before .before .before .before .before .before .before .before .before .before .before .pre .0), tt)
 
   compare-const-requires : compare-lts.Need-compare-const-requires (compare-claims t) (compare-at t) compare.Post
   compare-const-requires c κs = tt
 
   same-length-2 : compare-lts.Need-same-length-2 (compare-claims t) (compare-at t) compare.Post
-  same-length-2 c = c .before .before .compare-const .kept .1 .1 .0 ∙ c .before .before .before .before .before .before .expr .kept .1 .1 .0 ∙ c .before .before .before .before .before .before .before .before .before .before .before .before .before .post .kept .1 .1 .0
+  same-length-2 c = c .before .before .compare-const .kept .1 .1 .0 ∙ c .before .before .before .before .before .before .expr .kept .1 .1 .0 ∙ c .before .before .before .before .before .before .before .before .before .before .before .before .before .before .post .kept .1 .1 .0
 
   returns-2 : compare-lts.Need-returns-2 (compare-claims t) (compare-at t) compare.Post
-  returns-2 c = compare-one _ _ _ _ _ _ _ _ (c .before .before .before .before .before .before .before .before .before .before .before .before .before .before .before .before .count-at .ensures) (c .before .before .before .before .before .before .before .before .before .before .before .before .before .before .before .if1 .left) (c .before .before .before .before .before .before .before .before .before .before .before .before .before .post .ensures) (c .before .before .before .before .before .before .before .before .before .first-at .ensures .0) (c .before .before .before .before .before .before .before .before .if2 .taken) (c .before .before .before .before .before .before .expr .ensures) (c .before .before .compare-const .ensures)
+  returns-2 c = compare-one _ _ _ _ _ _ _ _ (c .before .before .before .before .before .before .before .before .before .before .before .before .before .before .before .before .before .count-at .ensures) (c .before .before .before .before .before .before .before .before .before .before .before .before .before .before .before .before .if1 .left) (c .before .before .before .before .before .before .before .before .before .before .before .before .before .before .post .ensures) (c .before .before .before .before .before .before .before .before .before .first-at .ensures .0) (c .before .before .before .before .before .before .before .before .if2 .taken) (c .before .before .before .before .before .before .expr .ensures) (c .before .before .compare-const .ensures)
 
   binary-requires : compare-lts.Need-binary-requires (compare-claims t) (compare-at t) compare.Post
-  binary-requires c κs = (omega (arith, c .before .before .before .before .before .before .before .before .before .before .before .before .pre .0), tt)
+  binary-requires c κs = (omega (arith, c .before .before .before .before .before .before .before .before .before .before .before .before .before .pre .0), tt)
 
   instr-requires : compare-lts.Need-instr-requires (compare-claims t) (compare-at t) compare.Post
   instr-requires c κs = tt
@@ -48,10 +48,10 @@ module _ (t : ℕ) where
   pop-requires c κs = tt
 
   same-length-3 : compare-lts.Need-same-length-3 (compare-claims t) (compare-at t) compare.Post
-  same-length-3 c = c .before .before .before .instr .kept .0 ∙ c .before .before .before .before .before .before .before .binary .kept .1 .1 .0 ∙ c .before .before .before .before .before .before .before .before .before .before .before .before .before .before .post .kept .1 .1 .0
+  same-length-3 c = c .before .before .before .instr .kept .0 ∙ c .before .before .before .before .before .before .before .binary .kept .1 .1 .0 ∙ c .before .before .before .before .before .before .before .before .before .before .before .before .before .before .before .post .kept .1 .1 .0
 
   returns-3 : compare-lts.Need-returns-3 (compare-claims t) (compare-at t) compare.Post
-  returns-3 c = compare-all _ _ _ _ _ _ _ _ (c .before .before .before .before .before .before .before .before .before .before .before .before .before .before .before .before .before .count-at .ensures) (c .before .before .before .before .before .before .before .before .before .before .before .before .before .before .before .before .if1 .left) (c .before .before .before .before .before .before .before .before .before .before .before .before .before .before .post .ensures) (c .before .before .before .before .before .before .before .before .before .before .first-at .ensures .0) (c .before .before .before .before .before .before .before .before .before .if2 .left) (c .before .before .before .before .before .before .before .binary .ensures) (c .before .before .before .instr .ensures) (c .pop .ensures)
+  returns-3 c = compare-all _ _ _ _ _ _ _ _ (c .before .before .before .before .before .before .before .before .before .before .before .before .before .before .before .before .before .before .count-at .ensures) (c .before .before .before .before .before .before .before .before .before .before .before .before .before .before .before .before .before .if1 .left) (c .before .before .before .before .before .before .before .before .before .before .before .before .before .before .before .post .ensures) (c .before .before .before .before .before .before .before .before .before .before .first-at .ensures .0) (c .before .before .before .before .before .before .before .before .before .if2 .left) (c .before .before .before .before .before .before .before .binary .ensures) (c .before .before .before .instr .ensures) (c .pop .ensures)
 
   pub compare-part : {M : Type 1} → compare-lts.Closed (compare-claims t) (compare-at t) compare.Post M
   compare-part = compare-lts.spec (compare-claims t) (compare-at t) compare.Post count-at-requires failed-requires same-length returns post-requires first-at-requires expr-requires compare-const-requires same-length-2 returns-2 binary-requires instr-requires pop-requires same-length-3 returns-3

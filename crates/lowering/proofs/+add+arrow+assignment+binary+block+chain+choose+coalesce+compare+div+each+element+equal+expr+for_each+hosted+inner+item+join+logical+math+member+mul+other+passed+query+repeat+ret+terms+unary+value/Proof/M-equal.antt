@@ -27,19 +27,19 @@ module _ (t : ℕ) where
   first-at-requires c κs = tt
 
   expr-requires : equal-lts.Need-expr-requires (equal-claims t) (equal-at t) equal.Post
-  expr-requires c κs = (omega (arith, c .before .before .before .before .before .before .before .before .before .before .before .before .pre .0), tt)
+  expr-requires c κs = (omega (arith, c .before .before .before .before .before .before .before .before .before .before .before .before .before .pre .0), tt)
 
   equal-const-requires : equal-lts.Need-equal-const-requires (equal-claims t) (equal-at t) equal.Post
   equal-const-requires c κs = tt
 
   same-length-2 : equal-lts.Need-same-length-2 (equal-claims t) (equal-at t) equal.Post
-  same-length-2 c = c .before .before .equal-const .kept .1 .1 .0 ∙ c .before .before .before .before .before .before .expr .kept .1 .1 .0 ∙ c .before .before .before .before .before .before .before .before .before .before .before .before .before .post .kept .1 .1 .0
+  same-length-2 c = c .before .before .equal-const .kept .1 .1 .0 ∙ c .before .before .before .before .before .before .expr .kept .1 .1 .0 ∙ c .before .before .before .before .before .before .before .before .before .before .before .before .before .before .post .kept .1 .1 .0
 
   returns-2 : equal-lts.Need-returns-2 (equal-claims t) (equal-at t) equal.Post
-  returns-2 c = equal-one _ _ _ _ _ _ _ _ (c .before .before .before .before .before .before .before .before .before .before .before .before .before .before .before .before .count-at .ensures) (c .before .before .before .before .before .before .before .before .before .before .before .before .before .before .before .if1 .left) (c .before .before .before .before .before .before .before .before .before .before .before .before .before .post .ensures) (c .before .before .before .before .before .before .before .before .before .first-at .ensures .0) (c .before .before .before .before .before .before .before .before .if2 .taken) (c .before .before .before .before .before .before .expr .ensures) (c .before .before .equal-const .ensures)
+  returns-2 c = equal-one _ _ _ _ _ _ _ _ (c .before .before .before .before .before .before .before .before .before .before .before .before .before .before .before .before .before .count-at .ensures) (c .before .before .before .before .before .before .before .before .before .before .before .before .before .before .before .before .if1 .left) (c .before .before .before .before .before .before .before .before .before .before .before .before .before .before .post .ensures) (c .before .before .before .before .before .before .before .before .before .first-at .ensures .0) (c .before .before .before .before .before .before .before .before .if2 .taken) (c .before .before .before .before .before .before .expr .ensures) (c .before .before .equal-const .ensures)
 
   binary-requires : equal-lts.Need-binary-requires (equal-claims t) (equal-at t) equal.Post
-  binary-requires c κs = (omega (arith, c .before .before .before .before .before .before .before .before .before .before .before .before .pre .0), tt)
+  binary-requires c κs = (omega (arith, c .before .before .before .before .before .before .before .before .before .before .before .before .before .pre .0), tt)
 
   instr-requires : equal-lts.Need-instr-requires (equal-claims t) (equal-at t) equal.Post
   instr-requires c κs = tt
@@ -48,10 +48,10 @@ module _ (t : ℕ) where
   pop-requires c κs = tt
 
   same-length-3 : equal-lts.Need-same-length-3 (equal-claims t) (equal-at t) equal.Post
-  same-length-3 c = c .before .before .before .instr .kept .0 ∙ c .before .before .before .before .before .before .before .binary .kept .1 .1 .0 ∙ c .before .before .before .before .before .before .before .before .before .before .before .before .before .before .post .kept .1 .1 .0
+  same-length-3 c = c .before .before .before .instr .kept .0 ∙ c .before .before .before .before .before .before .before .binary .kept .1 .1 .0 ∙ c .before .before .before .before .before .before .before .before .before .before .before .before .before .before .before .post .kept .1 .1 .0
 
   returns-3 : equal-lts.Need-returns-3 (equal-claims t) (equal-at t) equal.Post
-  returns-3 c = equal-all _ _ _ _ _ _ _ _ (c .before .before .before .before .before .before .before .before .before .before .before .before .before .before .before .before .before .count-at .ensures) (c .before .before .before .before .before .before .before .before .before .before .before .before .before .before .before .before .if1 .left) (c .before .before .before .before .before .before .before .before .before .before .before .before .before .before .post .ensures) (c .before .before .before .before .before .before .before .before .before .before .first-at .ensures .0) (c .before .before .before .before .before .before .before .before .before .if2 .left) (c .before .before .before .before .before .before .before .binary .ensures) (c .before .before .before .instr .ensures) (c .pop .ensures)
+  returns-3 c = equal-all _ _ _ _ _ _ _ _ (c .before .before .before .before .before .before .before .before .before .before .before .before .before .before .before .before .before .before .count-at .ensures) (c .before .before .before .before .before .before .before .before .before .before .before .before .before .before .before .before .before .if1 .left) (c .before .before .before .before .before .before .before .before .before .before .before .before .before .before .before .post .ensures) (c .before .before .before .before .before .before .before .before .before .before .first-at .ensures .0) (c .before .before .before .before .before .before .before .before .before .if2 .left) (c .before .before .before .before .before .before .before .binary .ensures) (c .before .before .before .instr .ensures) (c .pop .ensures)
 
   pub equal-part : {M : Type 1} → equal-lts.Closed (equal-claims t) (equal-at t) equal.Post M
   equal-part = equal-lts.spec (equal-claims t) (equal-at t) equal.Post count-at-requires failed-requires same-length returns post-requires first-at-requires expr-requires equal-const-requires same-length-2 returns-2 binary-requires instr-requires pop-requires same-length-3 returns-3

@@ -27,16 +27,16 @@ module _ (t : ℕ) where
   first-at-requires c κs = tt
 
   sub-join : logical-lts.Need-sub-join (logical-claims t) (logical-at t) logical.Post
-  sub-join c = omega (arith, c .before .before .before .before .before .before .before .if1 .left)
+  sub-join c = omega (arith, c .before .before .before .before .before .before .before .before .if1 .left)
 
   join-requires : logical-lts.Need-join-requires (logical-claims t) (logical-at t) logical.Post
-  join-requires c κs = (omega (arith, c .before .before .before .before .before .before .before .before .before .before .before .pre .0, c .before .before .before .before .before .before .before .before .count-at .ok, c .before .before .before .before .before .before .before .if1 .left), tt)
+  join-requires c κs = (omega (arith, c .before .before .before .before .before .before .before .before .before .before .before .before .pre .0, c .before .before .before .before .before .before .before .before .before .count-at .ok, c .before .before .before .before .before .before .before .before .if1 .left), tt)
 
   same-length-2 : logical-lts.Need-same-length-2 (logical-claims t) (logical-at t) logical.Post
-  same-length-2 c = c .before .before .join .kept .1 .1 .0 ∙ c .before .before .before .before .before .before .before .before .post .kept .1 .1 .0
+  same-length-2 c = c .before .before .join .kept .1 .1 .0 ∙ c .before .before .before .before .before .before .before .before .before .post .kept .1 .1 .0
 
   returns-2 : logical-lts.Need-returns-2 (logical-claims t) (logical-at t) logical.Post
-  returns-2 c = logical-all _ _ _ _ _ _ _ _ _ (c .before .before .before .before .before .before .before .before .before .before .before .count-at .ensures) (c .before .before .before .before .before .before .before .before .before .before .if1 .left) (c .before .before .before .before .before .before .before .before .post .ensures) (c .before .before .before .before .first-at .ensures .0) (c .before .before .join .ensures)
+  returns-2 c = logical-all _ _ _ _ _ _ _ _ _ (c .before .before .before .before .before .before .before .before .before .before .before .before .count-at .ensures) (c .before .before .before .before .before .before .before .before .before .before .before .if1 .left) (c .before .before .before .before .before .before .before .before .before .post .ensures) (c .before .before .before .before .first-at .ensures .0) (c .before .before .join .ensures)
 
   pub logical-part : {M : Type 1} → logical-lts.Closed (logical-claims t) (logical-at t) logical.Post M
   logical-part = logical-lts.spec (logical-claims t) (logical-at t) logical.Post count-at-requires failed-requires same-length returns post-requires first-at-requires sub-join join-requires same-length-2 returns-2

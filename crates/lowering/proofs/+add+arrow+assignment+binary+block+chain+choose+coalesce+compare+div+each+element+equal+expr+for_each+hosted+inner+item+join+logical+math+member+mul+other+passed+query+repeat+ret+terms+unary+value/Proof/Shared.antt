@@ -96,7 +96,7 @@ use Rattle.lowering.proofs.value.Reads as value
 use Rattle.lowering.proofs.value.Kinds as value-kinds
 use Rattle.lowering.proofs.+add+arrow+assignment+binary+block+chain+choose+coalesce+compare+div+each+element+equal+expr+for_each+hosted+inner+item+join+logical+math+member+mul+other+passed+query+repeat+ret+terms+unary+value.Lts-value as value-lts
 use Rattle.builder.proofs.failed.Reads as failed-reads
-use Rattle.interning.proofs.constant.Reads as constant-reads
+use Rattle.lowering.proofs.interning.constant.Reads as constant-reads
 use Rattle.builder.proofs.push.Reads as push-reads
 use Rattle.builder.proofs.segments.open_segment.Reads as open-segment-reads
 use Rattle.lowering.proofs.assign.one_more.Reads as one-more-reads
@@ -135,7 +135,7 @@ use Rattle.tree.proofs.count_at.Reads as count-at-reads
 use Rattle.tree.proofs.first_at.Reads as first-at-reads
 use Rattle.tree.proofs.next_at.Reads as next-at-reads
 use Rattle.lowering.proofs.values.list_constant.Reads as list-constant-reads
-use Rattle.tree.proofs.payload_at.Reads as payload-at-reads
+use Rattle.payload.proofs.payload_at.Reads as payload-at-reads
 use Rattle.wire.proofs.get_u8.Reads as get-u8-reads
 
 abbrev pub μ-add : Measures 2 add-kinds.ps ℕ

@@ -20,7 +20,7 @@ use Rattle.lowering.proofs.assign.one_more.Reads as one-more-reads
 use Rattle.lowering.proofs.assign.rule_at.Reads as rule-at-reads
 use Rattle.tree.proofs.count_at.Reads as count-at-reads
 use Rattle.tree.proofs.first_at.Reads as first-at-reads
-use Rattle.tree.proofs.payload_at.Reads as payload-at-reads
+use Rattle.payload.proofs.payload_at.Reads as payload-at-reads
 use Rattle.lowering.proofs.assign.+path_end.{statement}
 use Rattle.lowering.proofs.assign.+path_end.Tie.{close}
 

@@ -18,7 +18,7 @@ use Rattle.lowering.proofs.assign.+path_hashes.Lts-path_hashes as path-
 use Rattle.lowering.proofs.assign.add_path.Reads as add-path-reads
 use Rattle.lowering.proofs.assign.rule_at.Reads as rule-at-reads
 use Rattle.tree.proofs.first_at.Reads as first-at-reads
-use Rattle.tree.proofs.payload_at.Reads as payload-at-reads
+use Rattle.payload.proofs.payload_at.Reads as payload-at-reads
 use Rattle.lowering.proofs.assign.+path_hashes.{statement}
 use Rattle.lowering.proofs.assign.+path_hashes.Tie.{close}
 

@@ -36,7 +36,7 @@ returns-2 : tie.Need-returns-2
 unfolding rootTemp
 returns-2 c =
     let a = c .before .before .before .before .before .before .before .before .before .before .before .before .before .before .before .args in
-    _∙_ {A = Held} (gone (λ k. storeAs (a .tree .now) 1 k (a .levels) (a .at) (a .count) (a .q)) (c .before .before .before .before .before .before .before .temp .ensures) (c .before .before .store-as2 .ensures)) (is-temp {X = Held} _ _ _ (c .before .before .before .before .before .before .before .before .before .before .before .before .payload-at .ensures) (c .before .before .before .before .before .before .before .before .before .before .p .given .1))
+    _∙_ {A = Held} (gone (λ k. storeAs (a .tree .now) 1 k (a .levels) (a .at) (a .count) (a .q .0)) (c .before .before .before .before .before .before .before .temp .ensures) (c .before .before .store-as2 .ensures)) (is-temp {X = Held} _ _ _ (c .before .before .before .before .before .before .before .before .before .before .before .before .payload-at .ensures) (c .before .before .before .before .before .before .before .before .before .before .p .given .1))
 
 pub root-temp-spec : {M : Type 1} → statement M
 root-temp-spec =

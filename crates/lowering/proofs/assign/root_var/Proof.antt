@@ -36,7 +36,7 @@ returns-2 : tie.Need-returns-2
 unfolding rootVar
 returns-2 c =
     let a = c .before .before .before .before .before .before .before .before .before .before .before .before .before .before .before .args in
-    _∙_ {A = Held} (gone (λ k. storeAs (a .tree .now) 0 k (a .levels) (a .at) (a .count) (a .q)) (c .before .before .before .before .before .before .before .name .ensures) (c .before .before .store-as .ensures)) (is-entity {X = Held} _ _ _ (c .before .before .before .before .before .before .before .before .before .before .before .before .payload-at .ensures) (c .before .before .before .before .before .before .before .before .before .before .p .given .1))
+    _∙_ {A = Held} (gone (λ k. storeAs (a .tree .now) 0 k (a .levels) (a .at) (a .count) (a .q .0)) (c .before .before .before .before .before .before .before .name .ensures) (c .before .before .store-as .ensures)) (is-entity {X = Held} _ _ _ (c .before .before .before .before .before .before .before .before .before .before .before .before .payload-at .ensures) (c .before .before .before .before .before .before .before .before .before .before .p .given .1))
 
 pub root-var-spec : {M : Type 1} → statement M
 root-var-spec =

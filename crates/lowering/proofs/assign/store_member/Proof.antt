@@ -42,7 +42,7 @@ returns-2 : tie.Need-returns-2
 unfolding storeMember
 returns-2 c =
     let a = c .before .before .before .before .before .before .before .before .before .before .before .before .args in
-    _∙_ {A = Held} (c .before .before .root-var .ensures) (_∙_ {A = Held} (ap (λ (x : PathEnd). rootVar (a .tree .now) (x .root) (a .levels) (a .at) (x .count) (a .q) (c .before .before .before .before .flag .result, (a .ws .now))) (c .before .before .before .before .before .before .before .path-end .ensures)) (_∙_ {A = Held} (ap (λ (s : State). rootVar (a .tree .now) (pathEnd (a .tree .now) (a .levels) (a .at) .root) (a .levels) (a .at) (pathEnd (a .tree .now) (a .levels) (a .at) .count) (a .q) (s, (a .ws .now))) (c .before .before .before .before .flag .ensures ∙ ap (flagged 16) (c .before .before .before .before .before .not-float-only .ensures))) (sym (chosen-yes {A = Held} _ _ _ (both _ _ (eq-eqb _ _ (sym (c .before .before .before .before .before .before .before .before .before .rule-at .ensures) ∙ c .before .before .before .before .before .before .before .before .if1 .left)) (sym (ap (λ (x : PathEnd). x .fine) (c .before .before .before .before .before .before .before .path-end .ensures)) ∙ c .before .before .before .before .before .before .if2 .taken))))))
+    _∙_ {A = Held} (c .before .before .root-var .ensures) (_∙_ {A = Held} (ap (λ (x : PathEnd). rootVar (a .tree .now) (x .root) (a .levels) (a .at) (x .count) (a .q .0) (c .before .before .before .before .flag .result, (a .ws .now))) (c .before .before .before .before .before .before .before .path-end .ensures)) (_∙_ {A = Held} (ap (λ (s : State). rootVar (a .tree .now) (pathEnd (a .tree .now) (a .levels) (a .at) .root) (a .levels) (a .at) (pathEnd (a .tree .now) (a .levels) (a .at) .count) (a .q .0) (s, (a .ws .now))) (c .before .before .before .before .flag .ensures ∙ ap (flagged 16) (c .before .before .before .before .before .not-float-only .ensures))) (sym (chosen-yes {A = Held} _ _ _ (both _ _ (eq-eqb _ _ (sym (c .before .before .before .before .before .before .before .before .before .rule-at .ensures) ∙ c .before .before .before .before .before .before .before .before .if1 .left)) (sym (ap (λ (x : PathEnd). x .fine) (c .before .before .before .before .before .before .before .path-end .ensures)) ∙ c .before .before .before .before .before .before .if2 .taken))))))
 
 failed-requires-2 : tie.Need-failed-requires-2
 failed-requires-2 c κs = search needs

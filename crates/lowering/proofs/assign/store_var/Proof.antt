@@ -27,15 +27,15 @@ returns c = _∙_ {A = Held} (c .before .before .store-temp .ensures) (not-entit
 name-requires : tie.Need-name-requires
 name-requires c κs = search needs
 
-instr-of-requires : tie.Need-instr-of-requires
-instr-of-requires c κs = search needs
+name-instr-requires : tie.Need-name-instr-requires
+name-instr-requires c κs = search needs
 
 same-length-2 : tie.Need-same-length-2
 same-length-2 c = search needs
 
 returns-2 : tie.Need-returns-2
 unfolding storeVar
-returns-2 c = _∙_ {A = Held} (gone (λ k. instr 10 0 k (c .before .before .before .before .before .before .before .before .before .before .before .before .before .before .args .q)) (c .before .before .before .before .before .before .name .ensures) (c .before .before .instr-of .ensures)) (is-entity {X = Held} _ _ _ (c .before .before .before .before .before .before .before .before .before .before .before .payload-at .ensures) (c .before .before .before .before .before .before .before .before .before .p .given .1))
+returns-2 c = _∙_ {A = Held} (gone (λ k. instr 10 0 k (c .before .before .before .before .before .before .before .before .before .before .before .before .before .before .args .q .0)) (c .before .before .before .before .before .before .name .ensures) (c .before .before .name-instr .ensures)) (is-entity {X = Held} _ _ _ (c .before .before .before .before .before .before .before .before .before .before .before .payload-at .ensures) (c .before .before .before .before .before .before .before .before .before .p .given .1))
 
 pub store-var-spec : {M : Type 1} → statement M
 store-var-spec =
@@ -47,6 +47,6 @@ store-var-spec =
     same-length
     returns
     name-requires
-    instr-of-requires
+    name-instr-requires
     same-length-2
     returns-2)

@@ -2,13 +2,13 @@ use mathlib.Core.Path.{refl, ap, _∙_}
 use Prim.Native.Nat.{ℕ}
 use borrow.Author.Needs.{needs}
 use Rattle.builder.specs.Steps.{Held}
-use Rattle.interning.specs.Pools.{Found}
+use Rattle.lowering.specs.Pools.{Found}
 use Rattle.lowering.specs.Payloads.{floatOf}
 use Rattle.lowering.specs.Parts.{instr}
 use Rattle.lowering.specs.Rules.{equalConst}
 use Rattle.lowering.proofs.Others.{is-hash, not-hash}
 use Rattle.lowering.proofs.Laws.{gone, hash-at}
-use Rattle.interning.specs.Pools as B
+use Rattle.lowering.specs.Pools as B
 use Rattle.lowering.proofs.logic.equal_const.Statement.{statement}
 use Rattle.lowering.proofs.logic.equal_const.Tie as tie
 
@@ -24,8 +24,8 @@ float-bits-requires c κs = search needs
 konst-requires : tie.Need-konst-requires
 konst-requires c κs = search needs
 
-instr-of-requires : tie.Need-instr-of-requires
-instr-of-requires c κs = search needs
+const-instr-requires : tie.Need-const-instr-requires
+const-instr-requires c κs = search needs
 
 same-length : tie.Need-same-length
 same-length c = search needs
@@ -34,7 +34,7 @@ returns : tie.Need-returns
 unfolding equalConst
 returns c =
     let a = c .before .before .before .before .before .before .before .before .before .before .before .before .before .args in
-    _∙_ {A = Held} (gone (λ k. instr 26 (a .o) k (a .q)) (_∙_ {A = Found} (c .before .before .before .before .before .before .konst .ensures) (ap (λ (n : ℕ). B.konst n (a .st, a .ws .now)) (c .before .before .before .before .before .before .before .float-bits .ensures ∙ ap floatOf (c .before .before .before .before .before .before .before .before .before .before .payload-at .ensures)))) (c .before .before .instr-of .ensures)) (not-hash {X = Held} _ _ (c .before .before .before .before .before .before .before .before .before .before .payload-at .ensures) (c .before .before .before .before .before .before .before .before .before .match .keys2))
+    _∙_ {A = Held} (gone (λ k. instr 26 (a .o) k (a .q .0)) (_∙_ {A = Found} (c .before .before .before .before .before .before .konst .ensures) (ap (λ (n : ℕ). B.konst n (a .st, a .ws .now)) (c .before .before .before .before .before .before .before .float-bits .ensures ∙ ap floatOf (c .before .before .before .before .before .before .before .before .before .before .payload-at .ensures)))) (c .before .before .const-instr .ensures)) (not-hash {X = Held} _ _ (c .before .before .before .before .before .before .before .before .before .before .payload-at .ensures) (c .before .before .before .before .before .before .before .before .before .match .keys2))
 
 not-float-only-requires : tie.Need-not-float-only-requires
 not-float-only-requires c κs = search needs
@@ -42,8 +42,8 @@ not-float-only-requires c κs = search needs
 hash-requires : tie.Need-hash-requires
 hash-requires c κs = search needs
 
-instr-of-requires-2 : tie.Need-instr-of-requires-2
-instr-of-requires-2 c κs = search needs
+hash-instr-requires : tie.Need-hash-instr-requires
+hash-instr-requires c κs = search needs
 
 same-length-2 : tie.Need-same-length-2
 same-length-2 c = search needs
@@ -52,7 +52,7 @@ returns-2 : tie.Need-returns-2
 unfolding equalConst
 returns-2 c =
     let a = c .before .before .before .before .before .before .before .before .before .before .before .before .before .before .before .args in
-    _∙_ {A = Held} (gone (λ k. instr 27 (a .o) k (a .q)) (_∙_ {A = Found} (c .before .before .before .before .before .before .hash .ensures) (hash-at (a .ws .now) refl (c .before .before .before .before .before .before .before .before .not-float-only .ensures))) (c .before .before .instr-of2 .ensures)) (is-hash {X = Held} _ _ _ (c .before .before .before .before .before .before .before .before .before .before .before .before .payload-at .ensures) (c .before .before .before .before .before .before .before .before .before .before .p .given .1))
+    _∙_ {A = Held} (gone (λ k. instr 27 (a .o) k (a .q .0)) (_∙_ {A = Found} (c .before .before .before .before .before .before .hash .ensures) (hash-at (a .ws .now) refl (c .before .before .before .before .before .before .before .before .not-float-only .ensures))) (c .before .before .hash-instr .ensures)) (is-hash {X = Held} _ _ _ (c .before .before .before .before .before .before .before .before .before .before .before .before .payload-at .ensures) (c .before .before .before .before .before .before .before .before .before .before .p .given .1))
 
 pub equal-const-spec : {M : Type 1} → statement M
 equal-const-spec =
@@ -62,11 +62,11 @@ equal-const-spec =
     enum-known-p
     float-bits-requires
     konst-requires
-    instr-of-requires
+    const-instr-requires
     same-length
     returns
     not-float-only-requires
     hash-requires
-    instr-of-requires-2
+    hash-instr-requires
     same-length-2
     returns-2)

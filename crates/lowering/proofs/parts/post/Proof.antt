@@ -1,9 +1,9 @@
 use mathlib.Core.Path.{ap, _∙_}
 use borrow.Author.Needs.{needs}
 use Rattle.numeric.specs.Post.{Post}
-use Rattle.interning.specs.Pools.{Found}
+use Rattle.lowering.specs.Pools.{Found}
 use Rattle.lowering.proofs.Laws.{same-post}
-use Rattle.interning.specs.Pools as B
+use Rattle.lowering.specs.Pools as B
 use Rattle.lowering.proofs.parts.post.Statement.{statement}
 use Rattle.lowering.proofs.parts.post.Tie as tie
 

@@ -3,12 +3,12 @@ use Rattle.lowering.specs.Steps.{handlerEntered}
 use Rattle.lowering.proofs.steps.enter_handler.Statement.{statement}
 use Rattle.lowering.proofs.steps.enter_handler.Tie as tie
 
-enter-handler-requires : tie.Need-enter-handler-requires
-enter-handler-requires c κs = search needs
+with-handler-requires : tie.Need-with-handler-requires
+with-handler-requires c κs = search needs
 
 returns : tie.Need-returns
 unfolding handlerEntered
 returns c = cc
 
 pub enter-handler-spec : {M : Type 1} → statement M
-enter-handler-spec = tie.close (tie.spec enter-handler-requires returns)
+enter-handler-spec = tie.close (tie.spec with-handler-requires returns)

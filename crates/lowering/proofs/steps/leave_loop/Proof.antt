@@ -3,12 +3,12 @@ use Rattle.lowering.specs.Steps.{loopLeft}
 use Rattle.lowering.proofs.steps.leave_loop.Statement.{statement}
 use Rattle.lowering.proofs.steps.leave_loop.Tie as tie
 
-leave-loop-requires : tie.Need-leave-loop-requires
-leave-loop-requires c κs = search needs
+without-loop-requires : tie.Need-without-loop-requires
+without-loop-requires c κs = search needs
 
 returns : tie.Need-returns
 unfolding loopLeft
 returns c = cc
 
 pub leave-loop-spec : {M : Type 1} → statement M
-leave-loop-spec = tie.close (tie.spec leave-loop-requires returns)
+leave-loop-spec = tie.close (tie.spec without-loop-requires returns)

@@ -8,8 +8,8 @@ use Rattle.lowering.proofs.values.array_put.Tie as tie
 name-requires : tie.Need-name-requires
 name-requires c κs = search needs
 
-put-post-of-requires : tie.Need-put-post-of-requires
-put-post-of-requires c κs = search needs
+name-put-post-requires : tie.Need-name-put-post-requires
+name-put-post-requires c κs = search needs
 
 same-length : tie.Need-same-length
 same-length c = search needs
@@ -18,7 +18,7 @@ returns : tie.Need-returns
 unfolding arrayPut
 returns c =
     let a = c .before .before .before .before .before .before .before .before .before .before .args in
-    gone (λ k. putPost (a .tree .now) (a .at) 8 0 k) (c .before .before .before .before .before .before .name .ensures) (c .before .before .put-post-of .ensures)
+    gone (λ k. putPost (a .tree .now) (a .at) 8 0 k) (c .before .before .before .before .before .before .name .ensures) (c .before .before .name-put-post .ensures)
 
 pub array-put-spec : {M : Type 1} → statement M
-array-put-spec = tie.close (tie.spec name-requires put-post-of-requires same-length returns)
+array-put-spec = tie.close (tie.spec name-requires name-put-post-requires same-length returns)

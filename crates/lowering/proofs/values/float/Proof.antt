@@ -2,7 +2,7 @@ use mathlib.Core.Path.{ap, _∙_}
 use Prim.Native.Nat.{ℕ}
 use borrow.Author.Needs.{needs}
 use Rattle.builder.specs.Steps.{Held}
-use Rattle.interning.specs.Pools.{constant}
+use Rattle.lowering.specs.Pools.{constant}
 use Rattle.lowering.specs.Payloads.{floatOf}
 use Rattle.lowering.proofs.values.float.Statement.{statement}
 use Rattle.lowering.proofs.values.float.Tie as tie

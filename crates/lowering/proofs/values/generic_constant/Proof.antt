@@ -3,7 +3,7 @@ use Prim.Native.Nat.{ℕ}
 use borrow.Author.Needs.{needs}
 use Rattle.numeric.specs.Post.{fold}
 use Rattle.builder.specs.Steps.{Held}
-use Rattle.interning.specs.Pools.{constant}
+use Rattle.lowering.specs.Pools.{constant}
 use Rattle.lowering.specs.Payloads.{constOf}
 use Rattle.lowering.specs.Parts.{postBits}
 use Rattle.lowering.specs.Rules.{generic}

@@ -30,8 +30,8 @@ flag-requires c κs = search needs
 name-requires : tie.Need-name-requires
 name-requires c κs = search needs
 
-instr-of-requires : tie.Need-instr-of-requires
-instr-of-requires c κs = search needs
+name-instr-requires : tie.Need-name-instr-requires
+name-instr-requires c κs = search needs
 
 same-length-2 : tie.Need-same-length-2
 same-length-2 c = search needs
@@ -40,7 +40,7 @@ returns-2 : tie.Need-returns-2
 unfolding loadContext
 returns-2 c =
     let a = c .before .before .before .before .before .before .before .before .before .before .before .before .before .before .before .args in
-    _∙_ {A = Held} (gone (λ k. instr 7 0 k (a .q)) (name-at _ (a .ws .now) (c .before .before .before .before .before .before .name .ensures) (c .before .before .before .before .before .before .before .before .flag .ensures)) (c .before .before .instr-of .ensures)) (is-context {X = Held} _ _ _ (c .before .before .before .before .before .before .before .before .before .before .before .before .payload-at .ensures) (c .before .before .before .before .before .before .before .before .before .before .p .given .1))
+    _∙_ {A = Held} (gone (λ k. instr 7 0 k (a .q .0)) (name-at _ (a .ws .now) (c .before .before .before .before .before .before .name .ensures) (c .before .before .before .before .before .before .before .before .flag .ensures)) (c .before .before .name-instr .ensures)) (is-context {X = Held} _ _ _ (c .before .before .before .before .before .before .before .before .before .before .before .before .payload-at .ensures) (c .before .before .before .before .before .before .before .before .before .before .p .given .1))
 
 pub load-context-spec : {M : Type 1} → statement M
 load-context-spec =
@@ -53,6 +53,6 @@ load-context-spec =
     returns
     flag-requires
     name-requires
-    instr-of-requires
+    name-instr-requires
     same-length-2
     returns-2)

@@ -27,8 +27,8 @@ returns c = _∙_ {A = Held} (c .before .before .failed .ensures) (not-member {X
 member-requires : tie.Need-member-requires
 member-requires c κs = search needs
 
-put-post-of-requires : tie.Need-put-post-of-requires
-put-post-of-requires c κs = search needs
+member-put-post-requires : tie.Need-member-put-post-requires
+member-put-post-requires c κs = search needs
 
 same-length-2 : tie.Need-same-length-2
 same-length-2 c = search needs
@@ -37,7 +37,7 @@ returns-2 : tie.Need-returns-2
 unfolding memberPut
 returns-2 c =
     let a = c .before .before .before .before .before .before .before .before .before .before .before .before .before .before .args in
-    _∙_ {A = Held} (gone (λ k. putPost (a .tree .now) (a .at) 9 0 k) (c .before .before .before .before .before .before .member .ensures) (c .before .before .put-post-of .ensures)) (is-member {X = Held} _ _ _ (c .before .before .before .before .before .before .before .before .before .before .before .payload-at .ensures) (c .before .before .before .before .before .before .before .before .before .p .given .1))
+    _∙_ {A = Held} (gone (λ k. putPost (a .tree .now) (a .at) 9 0 k) (c .before .before .before .before .before .before .member .ensures) (c .before .before .member-put-post .ensures)) (is-member {X = Held} _ _ _ (c .before .before .before .before .before .before .before .before .before .before .before .payload-at .ensures) (c .before .before .before .before .before .before .before .before .before .p .given .1))
 
 pub member-put-spec : {M : Type 1} → statement M
 member-put-spec =
@@ -49,6 +49,6 @@ member-put-spec =
     same-length
     returns
     member-requires
-    put-post-of-requires
+    member-put-post-requires
     same-length-2
     returns-2)

@@ -1,0 +1,3 @@
+pub mod Kind
+pub mod TextCut
+pub mod Meant

@@ -1,5 +1,0 @@
-pub mod Stores
-pub mod Seek
-pub mod Kept
-pub mod Slots
-pub mod Hits
