@@ -1,4 +1,5 @@
 // The tree image: the rule of each operator code.
+pub mod operators;
 mod rules;
 
 ghost use mathlib.Core.Path.{_≡_};

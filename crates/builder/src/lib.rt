@@ -1,4 +1,5 @@
 // The builder's state by value, beside the lent workspace: how much of each region is in use, a waiting Push, depth, flags and the first refusal.
+pub mod refusals;
 pub mod segments;
 
 use code::segment;
@@ -7,6 +8,13 @@ use program::ConstIdx;
 ghost use mathlib.Core.Path.{_≡_};
 ghost use mathlib.Core.List.{List};
 ghost use Rattle.builder.specs.Steps.{Held, emitted, flushed, put, putConst, refused, failed, pushed};
+
+// The first words of Push, PushConst and Const.
+const PUSH: u32 = 0x0d00_0000;
+
+const PUSH_CONST: u32 = 0x0e00_0000;
+
+const CONST: u32 = 0x0100_0000;
 
 // What every step changes stands together at the end: the compiler copies the rest in whole blocks.
 pub struct State {
@@ -47,7 +55,7 @@ pub fn flush(ws: &mut [u32], st: State) -> State
     if st.waiting {
         let mut s = st;
         s.waiting = false;
-        return emit(ws, s, 0x0d00_0000, 0);
+        return emit(ws, s, PUSH, 0);
     }
     st
 }
@@ -66,9 +74,9 @@ pub fn put_const(ws: &mut [u32], st: State, index: ConstIdx) -> State
     if st.waiting {
         let mut s = st;
         s.waiting = false;
-        return emit(ws, s, 0x0e00_0000, index.0);
+        return emit(ws, s, PUSH_CONST, index.0);
     }
-    emit(ws, st, 0x0100_0000, index.0)
+    emit(ws, st, CONST, index.0)
 }
 
 // The first refusal stays.

@@ -1,6 +1,7 @@
 // The generator: a tree image to its program image, over a lent workspace.
 use builder::State;
 use card::Sections;
+use program::Flags;
 ghost use mathlib.Core.Path.{_≡_};
 ghost use mathlib.Core.Bool.{cond, false};
 ghost use Prim.Native.Nat.{_≤_};
@@ -15,9 +16,6 @@ pub enum Answer {
     Accepted(usize),
     Refused(u8),
 }
-
-// All bits but FLOAT_ONLY.
-const NOT_FLOAT: u16 = 2046;
 
 // The nine questions in order; the program image in `out` where all are answered by yes.
 pub fn build(tree: &[u8], workspace: &mut [u32], out: &mut [u8]) -> Answer
@@ -136,7 +134,7 @@ fn final_flags(flags: u16, fits: bool) -> u16
     if fits {
         return flags;
     }
-    flags & NOT_FLOAT
+    flags & Flags::NOT_FLOAT
 }
 
 fn final_loop(float_loop: bool, fits: bool) -> bool

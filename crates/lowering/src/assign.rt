@@ -6,13 +6,17 @@ use crate::parts::post;
 use crate::parts::store_instr;
 use crate::parts::temp_instr;
 use crate::pools;
+use crate::regions;
 use crate::steps::flag;
 use crate::steps::not_float_only;
+use ast::operators;
 use builder::State;
+use builder::refusals;
 use payload::Payload;
 use program::Flags;
 use program::PostIdx;
 use program::StoreIdx;
+use program::opcodes;
 ghost use mathlib.Core.Path.{_≡_};
 ghost use mathlib.Core.List.{List};
 ghost use Rattle.builder.specs.Steps.{Held};
@@ -59,7 +63,7 @@ fn path_end(tree: &[u8], at: usize, levels: u16) -> PathEnd
     if levels == 0 {
         return no_path();
     }
-    if rule_at(tree, at) != 16 {
+    if rule_at(tree, at) != operators::MEMBER_ACCESSOR {
         return PathEnd {
             fine: true,
             root: at,
@@ -86,8 +90,8 @@ fn add_path(ws: &mut [u32], st: State, hash: u64) -> State
 {
     let n = pools::append_pair(
         ws,
-        13440,
-        256,
+        regions::PATHS,
+        regions::PATHS_ROOM,
         st.paths,
         (hash / 4294967296) as u32,
         (hash % 4294967296) as u32,
@@ -104,7 +108,7 @@ fn path_hashes(tree: &[u8], at: usize, ws: &mut [u32], st: State, levels: u16) -
     if levels == 0 {
         return st;
     }
-    if rule_at(tree, at) != 16 {
+    if rule_at(tree, at) != operators::MEMBER_ACCESSOR {
         return st;
     }
     let p = payload::payload_at(tree, at);
@@ -121,8 +125,8 @@ fn add_store(ws: &mut [u32], st: State, kind: u32, index: u16, first: u16, count
     let k = st.stores;
     let n = pools::append_four(
         ws,
-        12672,
-        192,
+        regions::STORES,
+        regions::STORES_ROOM,
         k,
         kind,
         index as u32,
@@ -154,7 +158,7 @@ fn store_as(
     let first = st.paths;
     let s = path_hashes(tree, at, ws, st, levels);
     let e = add_store(ws, s, kind, index, first, count);
-    store_instr(ws, e, 12, 0, q)
+    store_instr(ws, e, opcodes::STORE_MEMBER, 0, q)
 }
 
 fn root_temp(
@@ -202,15 +206,15 @@ fn root_var(
 fn store_member(tree: &[u8], at: usize, ws: &mut [u32], st: State, levels: u16, q: PostIdx) -> State
     ensures { λ r. ⌜ _≡_ {A = Held} (r, now (ws .exit)) (R.storeMember (now (tree .entry)) levels at (q .0) (st, now (ws .entry))) ⌝ }
 {
-    if rule_at(tree, at) != 16 {
-        return builder::failed(ws, st, 7);
+    if rule_at(tree, at) != operators::MEMBER_ACCESSOR {
+        return builder::failed(ws, st, refusals::FAILED);
     }
     let e = path_end(tree, at, levels);
     if e.fine {
         let s = flag(not_float_only(st), Flags::USES_MEMBERS);
         return root_var(tree, e.root, at, ws, s, levels, e.count, q);
     }
-    builder::failed(ws, st, 7)
+    builder::failed(ws, st, refusals::FAILED)
 }
 
 fn store_temp(tree: &[u8], at: usize, ws: &mut [u32], st: State, levels: u16, q: PostIdx) -> State
@@ -221,7 +225,7 @@ fn store_temp(tree: &[u8], at: usize, ws: &mut [u32], st: State, levels: u16, q:
         return store_member(tree, at, ws, st, levels, q);
     };
     let e = interning::temp(ws, st, n);
-    temp_instr(ws, e, 11, 0, q)
+    temp_instr(ws, e, opcodes::STORE_TEMP, 0, q)
 }
 
 fn store_var(tree: &[u8], at: usize, ws: &mut [u32], st: State, levels: u16, q: PostIdx) -> State
@@ -232,7 +236,7 @@ fn store_var(tree: &[u8], at: usize, ws: &mut [u32], st: State, levels: u16, q: 
         return store_temp(tree, at, ws, st, levels, q);
     };
     let e = interning::name(ws, st, n);
-    name_instr(ws, e, 10, 0, q)
+    name_instr(ws, e, opcodes::STORE_VAR, 0, q)
 }
 
 // A store to the target at `at`, of so many levels, with the post of the node `from`.
@@ -256,18 +260,18 @@ pub(crate) fn target_refusal(tree: &[u8], at: usize) -> u8
     ensures { λ r. ⌜ r ≡ R.targetRefusal (now (tree .entry)) at ⌝ }
 {
     let r = rule_at(tree, at);
-    if r == 16 {
+    if r == operators::MEMBER_ACCESSOR {
         return 0;
     }
-    if r == 13 {
+    if r == operators::ENTITY_VARIABLE {
         return 0;
     }
-    if r == 34 {
-        return 8;
+    if r == operators::POINTER {
+        return refusals::WRITE_TO_OTHER_MOB;
     }
     let p = payload::payload_at(tree, at);
     let Payload::Temp(_) = p else {
-        return 7;
+        return refusals::FAILED;
     };
     0
 }

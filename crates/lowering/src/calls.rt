@@ -2,9 +2,11 @@
 use crate::interning::CallEntry;
 use crate::parts::instr;
 use crate::pools;
+use crate::regions;
 use builder::State;
 use builder::segments;
 use program::CallIdx;
+use program::opcodes;
 ghost use mathlib.Core.Path.{_≡_};
 ghost use mathlib.Core.List.{List};
 ghost use Prim.Native.Nat.{_+_, min};
@@ -39,8 +41,8 @@ pub(crate) fn begin_call(
     let first = st.arguments;
     let n = pools::append_four(
         ws,
-        13952,
-        384,
+        regions::CALLS,
+        regions::CALLS_ROOM,
         k,
         index as u32,
         impl_idx as u32,
@@ -59,8 +61,8 @@ pub(crate) fn begin_call(
 fn put_start(ws: &mut [u32], slot: u16, start: u16)
     ensures { λ _. ⌜ now (ws .exit) ≡ cond (ltb slot 384) (set (now (ws .entry)) (15488 + slot) start) (now (ws .entry)) ⌝ }
 {
-    if slot < 384 {
-        let at = 15488 + (slot as usize);
+    if slot < regions::ARGUMENTS_ROOM {
+        let at = regions::ARGUMENTS + (slot as usize);
         if at < ws.len() {
             ws[at] = start as u32;
         }
@@ -71,7 +73,7 @@ fn put_start(ws: &mut [u32], slot: u16, start: u16)
 pub(crate) fn end_argument(ws: &mut [u32], st: State, base: u16, waiting: bool, slot: u16) -> State
     ensures { λ r. ⌜ _≡_ {A = Held} (r, now (ws .exit)) (argumentClosed base waiting slot (st, now (ws .entry))) ⌝ }
 {
-    let s = instr(ws, st, 48, 0, 0, 0);
+    let s = instr(ws, st, opcodes::END, 0, 0, 0);
     segments::aim_from(ws, s, 0, 0, 0);
     let start = s.finished;
     let e = segments::close_segment(ws, s, base, waiting);

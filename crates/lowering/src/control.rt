@@ -4,8 +4,10 @@ use crate::interning;
 use crate::parts::instr;
 use crate::parts::land;
 use builder::State;
+use builder::refusals;
 use builder::segments;
 use payload::Payload;
+use program::opcodes;
 ghost use mathlib.Core.Path.{_≡_};
 ghost use mathlib.Core.List.{List};
 ghost use Prim.Native.Nat.{ℕ};
@@ -21,7 +23,7 @@ pub(crate) fn jump_out(ws: &mut [u32], st: State, waits: u32, looping: bool) -> 
     if looping {
         return builder::put(ws, st, waits, 0);
     }
-    instr(ws, st, 47, 0, 0, 0)
+    instr(ws, st, opcodes::HALT, 0, 0, 0)
 }
 
 // Behind the body of the loop whose LoopBegin stands at `at`.
@@ -30,8 +32,8 @@ pub(crate) fn close_loop(ws: &mut [u32], st: State, at: u16) -> State
 {
     let check = segments::place(st);
     segments::aim_from(ws, st, one_more(at), check as u32, (check as u32) + 1);
-    let s = instr(ws, st, 41, 0, (at as u32) + 1, 0);
-    let e = instr(ws, s, 42, 0, 0, 0);
+    let s = instr(ws, st, opcodes::LOOP_CHECK, 0, (at as u32) + 1, 0);
+    let e = instr(ws, s, opcodes::LOOP_END, 0, 0, 0);
     land(ws, e, at)
 }
 
@@ -41,9 +43,9 @@ pub(crate) fn close_each(ws: &mut [u32], st: State, begin: u16, next: u16) -> St
 {
     let back = segments::place(st);
     segments::aim_from(ws, st, one_more(next), next as u32, (back as u32) + 1);
-    let s = instr(ws, st, 32, 0, next as u32, 0);
+    let s = instr(ws, st, opcodes::JUMP, 0, next as u32, 0);
     let t = land(ws, s, next);
-    let e = instr(ws, t, 42, 0, 0, 0);
+    let e = instr(ws, t, opcodes::LOOP_END, 0, 0, 0);
     land(ws, e, begin)
 }
 
@@ -57,7 +59,7 @@ pub struct EachVariable {
 fn no_variable(ws: &mut [u32], st: State) -> EachVariable
     ensures { λ r. ⌜ _≡_ {A = EachVariable × List ℕ} (r, now (ws .exit)) (R.noVariable (st, now (ws .entry))) ⌝ }
 {
-    let s = builder::failed(ws, st, 7);
+    let s = builder::failed(ws, st, refusals::FAILED);
     EachVariable {
         state: s,
         op: 0,
@@ -76,7 +78,7 @@ fn variable_temp(tree: &[u8], at: usize, ws: &mut [u32], st: State) -> EachVaria
     let s = e.state;
     EachVariable {
         state: s,
-        op: 45,
+        op: opcodes::EACH_NEXT_TEMP,
         index: e.index.0,
     }
 }
@@ -92,7 +94,7 @@ pub(crate) fn variable(tree: &[u8], at: usize, ws: &mut [u32], st: State) -> Eac
     let s = e.state;
     EachVariable {
         state: s,
-        op: 44,
+        op: opcodes::EACH_NEXT_VAR,
         index: e.index.0,
     }
 }

@@ -1,5 +1,6 @@
 // Interning of constants, posts, hashes, names, temps and members: each gives the state and the entry's index.
 use crate::pools;
+use crate::regions;
 use builder::State;
 use numeric::PostBits;
 use payload::NameRef;
@@ -69,7 +70,7 @@ pub struct PostEntry {
 pub(crate) fn konst(ws: &mut [u32], st: State, bits: u32) -> ConstEntry
     ensures { λ r. ⌜ _≡_ {A = Found} (ofConst r, now (ws .exit)) (konst bits (st, now (ws .entry))) ⌝ }
 {
-    let i = pools::intern_word(ws, 8192, 384, st.consts, bits);
+    let i = pools::intern_word(ws, regions::CONSTS, regions::CONSTS_ROOM, st.consts, bits);
     let mut s = st;
     s.consts = i.count;
     ConstEntry {
@@ -93,7 +94,14 @@ fn low(h: u64) -> u32
 pub(crate) fn hash(ws: &mut [u32], st: State, h: u64) -> HashEntry
     ensures { λ r. ⌜ _≡_ {A = Found} (ofHash r, now (ws .exit)) (hash h (st, now (ws .entry))) ⌝ }
 {
-    let i = pools::intern_pair(ws, 9344, 384, st.hashes, high(h), low(h));
+    let i = pools::intern_pair(
+        ws,
+        regions::HASHES,
+        regions::HASHES_ROOM,
+        st.hashes,
+        high(h),
+        low(h),
+    );
     let mut s = st;
     s.hashes = i.count;
     HashEntry {
@@ -117,7 +125,15 @@ pub(crate) fn name(ws: &mut [u32], st: State, n: NameRef) -> NameEntry
     ensures { λ r. ⌜ _≡_ {A = Found} (ofName r, now (ws .exit)) (name n (st, now (ws .entry))) ⌝ }
 {
     let h = n.hash;
-    let i = pools::intern_name(ws, 10112, 256, st.names, high(h), low(h), text_place(n.at));
+    let i = pools::intern_name(
+        ws,
+        regions::NAMES,
+        regions::NAMES_ROOM,
+        st.names,
+        high(h),
+        low(h),
+        text_place(n.at),
+    );
     let mut s = st;
     s.names = i.count;
     NameEntry {
@@ -134,8 +150,8 @@ pub(crate) fn member(ws: &mut [u32], st: State, own: NameRef, last: NameRef) -> 
     let l = last.hash;
     let i = pools::intern_member(
         ws,
-        11136,
-        256,
+        regions::MEMBERS,
+        regions::MEMBERS_ROOM,
         st.members,
         high(h),
         low(h),
@@ -162,7 +178,13 @@ fn wide(x: u16) -> u32
 fn slot(ws: &mut [u32], st: State, named: NameIdx) -> TempEntry
     ensures { λ r. ⌜ _≡_ {A = Found} (ofTemp r, now (ws .exit)) (slot (named .0) (st, now (ws .entry))) ⌝ }
 {
-    let i = pools::intern_word(ws, 10880, 256, st.temps, wide(named.0));
+    let i = pools::intern_word(
+        ws,
+        regions::TEMPS,
+        regions::TEMPS_ROOM,
+        st.temps,
+        wide(named.0),
+    );
     let mut s = st;
     s.temps = i.count;
     TempEntry {
@@ -191,7 +213,14 @@ pub(crate) fn post_of(ws: &mut [u32], st: State, bits: PostBits) -> PostEntry
             index: PostIdx::PLAIN,
         };
     }
-    let i = pools::intern_pair(ws, 8576, 384, st.posts, bits.scale, bits.offset);
+    let i = pools::intern_pair(
+        ws,
+        regions::POSTS,
+        regions::POSTS_ROOM,
+        st.posts,
+        bits.scale,
+        bits.offset,
+    );
     let mut s = st;
     s.posts = i.count;
     PostEntry {

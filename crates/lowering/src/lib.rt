@@ -6,10 +6,13 @@ mod interning;
 mod logic;
 mod parts;
 mod pools;
+mod regions;
 mod steps;
 mod values;
 
+use ast::operators;
 use builder::State;
+use builder::refusals;
 use builder::segments;
 use code::segment;
 use depth::Depth;
@@ -24,6 +27,8 @@ use payload::Payload;
 use program::Depths;
 use program::Flags;
 use program::PostIdx;
+use program::opcodes;
+use program::subs;
 use steps::flag;
 use steps::not_float_only;
 use steps::pop;
@@ -41,7 +46,11 @@ ghost use Rattle.lowering.specs.Rules as R;
 // The levels of an accepted tree.
 const LEVELS: u16 = 64;
 
-// Where the root node begins.
+// Where the two setting bytes stand, and where the root node begins.
+const ARRAYS: u32 = 5;
+
+const DIVISOR: u32 = 6;
+
 const ROOT: usize = 7;
 
 // The tree of an image as the main code, its End, and all that it needs in the workspace.
@@ -49,7 +58,7 @@ pub fn lower(tree: &[u8], ws: &mut [u32]) -> State
     ensures { λ r. ⌜ _≡_ {A = Held} (r, now (ws .exit)) (R.lowered (now (tree .entry)) (now (ws .entry))) ⌝ }
 {
     let s = expr(tree, ROOT, ws, start(), false, LEVELS);
-    let e = instr(ws, s, 48, 0, 0, 0);
+    let e = instr(ws, s, opcodes::END, 0, 0, 0);
     segments::aim_from(ws, e, 0, 0, 0);
     e
 }
@@ -98,31 +107,31 @@ fn leaf(tree: &[u8], at: usize, ws: &mut [u32], st: State, looping: bool, rule: 
     ensures { λ r. ⌜ _≡_ {A = Held} (r, now (ws .exit)) (R.leaf (now (tree .entry)) at looping rule (st, now (ws .entry))) ⌝ }
 {
     match rule {
-        2 => builder::failed(ws, st, 5),
-        3 => builder::failed(ws, st, 5),
-        4 => builder::failed(ws, st, 6),
-        5 => builder::failed(ws, st, 6),
-        6 => builder::failed(ws, st, 6),
-        7 => values::float(tree, at, ws, st),
-        8 => values::string_literal(tree, at, ws, st),
-        9 => values::resource(tree, at, ws, st),
-        10 => values::resource(tree, at, ws, st),
-        11 => values::resource(tree, at, ws, st),
-        12 => put_post(tree, at, ws, st, 4, 0, 0),
-        13 => values::load(tree, at, ws, st),
-        14 => values::load(tree, at, ws, st),
-        15 => values::load(tree, at, ws, st),
-        31 => control::jump_out(ws, st, segment::BREAK, looping),
-        32 => control::jump_out(ws, st, segment::CONTINUE, looping),
-        44 => values::generic_constant(tree, at, ws, st),
-        45 => values::generic_constant(tree, at, ws, st),
-        46 => values::generic_constant(tree, at, ws, st),
-        47 => values::generic_constant(tree, at, ws, st),
-        48 => values::generic_constant(tree, at, ws, st),
-        49 => values::generic_constant(tree, at, ws, st),
-        50 => values::generic_constant(tree, at, ws, st),
-        51 => values::generic_constant(tree, at, ws, st),
-        _ => builder::failed(ws, st, 7),
+        operators::ARRAY_VARIABLE => builder::failed(ws, st, refusals::USES_ARRAYS),
+        operators::EXPRESSION_ARRAY => builder::failed(ws, st, refusals::USES_ARRAYS),
+        operators::GEOMETRY_VARIABLE => builder::failed(ws, st, refusals::USES_RESOURCES),
+        operators::MATERIAL_VARIABLE => builder::failed(ws, st, refusals::USES_RESOURCES),
+        operators::TEXTURE_VARIABLE => builder::failed(ws, st, refusals::USES_RESOURCES),
+        operators::FLOAT => values::float(tree, at, ws, st),
+        operators::STRING_LITERAL => values::string_literal(tree, at, ws, st),
+        operators::GEOMETRY => values::resource(tree, at, ws, st),
+        operators::MATERIAL => values::resource(tree, at, ws, st),
+        operators::TEXTURE => values::resource(tree, at, ws, st),
+        operators::THIS => put_post(tree, at, ws, st, opcodes::THIS, 0, 0),
+        operators::ENTITY_VARIABLE => values::load(tree, at, ws, st),
+        operators::TEMP_VARIABLE => values::load(tree, at, ws, st),
+        operators::CONTEXT_VARIABLE => values::load(tree, at, ws, st),
+        operators::BREAK => control::jump_out(ws, st, segment::BREAK, looping),
+        operators::CONTINUE => control::jump_out(ws, st, segment::CONTINUE, looping),
+        operators::RETURN => values::generic_constant(tree, at, ws, st),
+        operators::PI => values::generic_constant(tree, at, ws, st),
+        operators::LEFT_BRACE => values::generic_constant(tree, at, ws, st),
+        operators::RIGHT_BRACE => values::generic_constant(tree, at, ws, st),
+        operators::RIGHT_BRACKET => values::generic_constant(tree, at, ws, st),
+        operators::RIGHT_PARENTHESIS => values::generic_constant(tree, at, ws, st),
+        operators::CONDITIONAL_ELSE => values::generic_constant(tree, at, ws, st),
+        operators::COMMA => values::generic_constant(tree, at, ws, st),
+        _ => builder::failed(ws, st, refusals::FAILED),
     }
 }
 
@@ -131,38 +140,56 @@ fn expr(tree: &[u8], at: usize, ws: &mut [u32], st: State, looping: bool, levels
     ensures { λ r. ⌜ _≡_ {A = Held} (r, now (ws .exit)) (R.expr (now (tree .entry)) levels at looping (st, now (ws .entry))) ⌝ }
 {
     if levels == 0 {
-        return builder::failed(ws, st, 7);
+        return builder::failed(ws, st, refusals::FAILED);
     }
     let rule = assign::rule_at(tree, at);
     let n = levels - 1;
     match rule {
-        1 => element(tree, at, ws, st, looping, n),
-        16 => member(tree, at, ws, st, looping, n),
-        17 => query(tree, at, ws, st, n),
-        18 => compare(tree, at, ws, st, 0, looping, n),
-        19 => compare(tree, at, ws, st, 1, looping, n),
-        20 => compare(tree, at, ws, st, 2, looping, n),
-        21 => compare(tree, at, ws, st, 3, looping, n),
-        22 => equal(tree, at, ws, st, 0, looping, n),
-        23 => equal(tree, at, ws, st, 1, looping, n),
-        24 => logical(tree, at, ws, st, 28, 30, looping, n),
-        25 => logical(tree, at, ws, st, 29, 31, looping, n),
-        26 => coalesce(tree, at, ws, st, looping, n),
-        27 => choose(tree, at, ws, st, looping, n),
-        28 => block(tree, at, ws, st, looping, n),
-        29 => repeat(tree, at, ws, st, looping, n),
-        30 => for_each(tree, at, ws, st, looping, n),
-        33 => assignment(tree, at, ws, st, looping, n),
-        34 => arrow(tree, at, ws, st, looping, n),
-        35 => inner(tree, at, ws, st, looping, n),
-        36 => inner(tree, at, ws, st, looping, n),
-        37 => unary(tree, at, ws, st, 15, looping, n),
-        38 => unary(tree, at, ws, st, 16, looping, n),
-        39 => add(tree, at, ws, st, looping, n),
-        40 => mul(tree, at, ws, st, looping, n),
-        41 => div(tree, at, ws, st, looping, n),
-        42 => math(tree, at, ws, st, 0, looping, n),
-        43 => math(tree, at, ws, st, 1536, looping, n),
+        operators::ARRAY => element(tree, at, ws, st, looping, n),
+        operators::MEMBER_ACCESSOR => member(tree, at, ws, st, looping, n),
+        operators::QUERY_FUNCTION => query(tree, at, ws, st, n),
+        operators::LESS_THAN => compare(tree, at, ws, st, subs::LT, looping, n),
+        operators::LESS_EQUAL => compare(tree, at, ws, st, subs::LE, looping, n),
+        operators::GREATER_EQUAL => compare(tree, at, ws, st, subs::GE, looping, n),
+        operators::GREATER_THAN => compare(tree, at, ws, st, subs::GT, looping, n),
+        operators::LOGICAL_EQUAL => equal(tree, at, ws, st, subs::EQ, looping, n),
+        operators::LOGICAL_NOT_EQUAL => equal(tree, at, ws, st, subs::NE, looping, n),
+        operators::LOGICAL_AND => logical(
+            tree,
+            at,
+            ws,
+            st,
+            opcodes::AND_STEP,
+            opcodes::AND_LAST,
+            looping,
+            n,
+        ),
+        operators::LOGICAL_OR => logical(
+            tree,
+            at,
+            ws,
+            st,
+            opcodes::OR_STEP,
+            opcodes::OR_LAST,
+            looping,
+            n,
+        ),
+        operators::NULL_COALESCING => coalesce(tree, at, ws, st, looping, n),
+        operators::CONDITIONAL => choose(tree, at, ws, st, looping, n),
+        operators::SEMICOLON => block(tree, at, ws, st, looping, n),
+        operators::LOOP => repeat(tree, at, ws, st, looping, n),
+        operators::FOR_EACH => for_each(tree, at, ws, st, looping, n),
+        operators::ASSIGNMENT => assignment(tree, at, ws, st, looping, n),
+        operators::POINTER => arrow(tree, at, ws, st, looping, n),
+        operators::LEFT_BRACKET => inner(tree, at, ws, st, looping, n),
+        operators::LEFT_PARENTHESIS => inner(tree, at, ws, st, looping, n),
+        operators::NEGATE => unary(tree, at, ws, st, opcodes::NEGATE, looping, n),
+        operators::LOGICAL_NOT => unary(tree, at, ws, st, opcodes::NOT, looping, n),
+        operators::ADD => add(tree, at, ws, st, looping, n),
+        operators::MUL => mul(tree, at, ws, st, looping, n),
+        operators::DIV => div(tree, at, ws, st, looping, n),
+        operators::HOST_MATH => math(tree, at, ws, st, 0, looping, n),
+        operators::HOST_MATH_VOLATILE => math(tree, at, ws, st, Flags::RANDOM, looping, n),
         _ => leaf(tree, at, ws, st, looping, rule),
     }
 }
@@ -173,15 +200,15 @@ fn expr(tree: &[u8], at: usize, ws: &mut [u32], st: State, looping: bool, levels
 fn element(tree: &[u8], at: usize, ws: &mut [u32], st: State, looping: bool, levels: u16) -> State
     ensures { λ r. ⌜ _≡_ {A = Held} (r, now (ws .exit)) (R.under (now (tree .entry)) levels (R.arrayElement (now (tree .entry))) at looping (st, now (ws .entry))) ⌝ }
 {
-    if wire::get_u8(tree, 0, 5) != 1 {
-        return builder::failed(ws, st, 5);
+    if wire::get_u8(tree, 0, ARRAYS) != 1 {
+        return builder::failed(ws, st, refusals::USES_ARRAYS);
     }
     if tree::count_at(tree, at) != 1 {
-        return builder::failed(ws, st, 7);
+        return builder::failed(ws, st, refusals::FAILED);
     }
     let p = payload::payload_at(tree, at);
     let Payload::ArrayVariable(n) = p else {
-        return builder::failed(ws, st, 7);
+        return builder::failed(ws, st, refusals::FAILED);
     };
     let s = not_float_only(st);
     let t = expr(tree, tree::first_at(tree, at), ws, s, looping, levels);
@@ -201,13 +228,13 @@ fn chain(
     ensures { λ r. ⌜ _≡_ {A = Held} (r, now (ws .exit)) (R.chain (now (tree .entry)) levels at last looping (st, now (ws .entry))) ⌝ }
 {
     if levels == 0 {
-        return builder::failed(ws, st, 7);
+        return builder::failed(ws, st, refusals::FAILED);
     }
-    if assign::rule_at(tree, at) != 16 {
+    if assign::rule_at(tree, at) != operators::MEMBER_ACCESSOR {
         return expr(tree, at, ws, st, looping, levels);
     }
     if tree::count_at(tree, at) == 0 {
-        return builder::failed(ws, st, 7);
+        return builder::failed(ws, st, refusals::FAILED);
     }
     let s = chain(
         tree,
@@ -228,10 +255,10 @@ fn member(tree: &[u8], at: usize, ws: &mut [u32], st: State, looping: bool, leve
     let s = flag(not_float_only(st), Flags::USES_MEMBERS);
     let p = payload::payload_at(tree, at);
     let Payload::Member(last) = p else {
-        return builder::failed(ws, s, 7);
+        return builder::failed(ws, s, refusals::FAILED);
     };
     if tree::count_at(tree, at) == 0 {
-        return builder::failed(ws, s, 7);
+        return builder::failed(ws, s, refusals::FAILED);
     }
     let t = chain(tree, tree::first_at(tree, at), ws, s, last, looping, levels);
     values::member_put(tree, at, ws, t, last)
@@ -249,7 +276,7 @@ fn assignment(
 {
     let count = tree::count_at(tree, at);
     if count == 0 {
-        return builder::failed(ws, st, 7);
+        return builder::failed(ws, st, refusals::FAILED);
     }
     let target = tree::first_at(tree, at);
     let refused = assign::target_refusal(tree, target);
@@ -304,7 +331,7 @@ fn compare(
 {
     let count = tree::count_at(tree, at);
     if count == 0 {
-        return builder::failed(ws, st, 7);
+        return builder::failed(ws, st, refusals::FAILED);
     }
     let e = post(tree, at, ws, st);
     let s = e.state;
@@ -315,7 +342,7 @@ fn compare(
         return logic::compare_const(tree, at, ws, t, o, q);
     }
     let t = binary(tree, a, ws, s, looping, levels);
-    let u = instr(ws, t, 23, o, 0, q.0);
+    let u = instr(ws, t, opcodes::CMP, o, 0, q.0);
     pop(u, 1)
 }
 
@@ -332,7 +359,7 @@ fn equal(
 {
     let count = tree::count_at(tree, at);
     if count == 0 {
-        return builder::failed(ws, st, 7);
+        return builder::failed(ws, st, refusals::FAILED);
     }
     let e = post(tree, at, ws, st);
     let s = e.state;
@@ -343,7 +370,7 @@ fn equal(
         return logic::equal_const(tree, at, ws, t, o, q);
     }
     let t = binary(tree, a, ws, s, looping, levels);
-    let u = instr(ws, t, 25, o, 0, q.0);
+    let u = instr(ws, t, opcodes::EQ, o, 0, q.0);
     pop(u, 1)
 }
 
@@ -362,7 +389,7 @@ fn logical(
 {
     let count = tree::count_at(tree, at);
     if count == 0 {
-        return builder::failed(ws, st, 7);
+        return builder::failed(ws, st, refusals::FAILED);
     }
     let e = post(tree, at, ws, st);
     let s = e.state;
@@ -424,7 +451,7 @@ fn inner(tree: &[u8], at: usize, ws: &mut [u32], st: State, looping: bool, level
     ensures { λ r. ⌜ _≡_ {A = Held} (r, now (ws .exit)) (R.under (now (tree .entry)) levels (R.bracket (now (tree .entry))) at looping (st, now (ws .entry))) ⌝ }
 {
     if tree::count_at(tree, at) == 0 {
-        return builder::failed(ws, st, 7);
+        return builder::failed(ws, st, refusals::FAILED);
     }
     expr(tree, tree::first_at(tree, at), ws, st, looping, levels)
 }
@@ -441,7 +468,7 @@ fn unary(
     ensures { λ r. ⌜ _≡_ {A = Held} (r, now (ws .exit)) (R.under (now (tree .entry)) levels (R.unary (now (tree .entry))) op at looping (st, now (ws .entry))) ⌝ }
 {
     if tree::count_at(tree, at) == 0 {
-        return builder::failed(ws, st, 7);
+        return builder::failed(ws, st, refusals::FAILED);
     }
     let s = expr(tree, tree::first_at(tree, at), ws, st, looping, levels);
     put_post(tree, at, ws, s, op, 0, 0)
@@ -453,7 +480,7 @@ fn add(tree: &[u8], at: usize, ws: &mut [u32], st: State, looping: bool, levels:
 {
     let count = tree::count_at(tree, at);
     if count == 0 {
-        return builder::failed(ws, st, 7);
+        return builder::failed(ws, st, refusals::FAILED);
     }
     let first = tree::first_at(tree, at);
     let s = expr(tree, first, ws, st, looping, levels);
@@ -492,32 +519,32 @@ fn terms(
     let mut left = m;
     while left > 0 {
         let t = expr(tree, term, ws, s, looping, levels);
-        s = instr(ws, t, 17, 0, 0, 0);
+        s = instr(ws, t, opcodes::ADD_ACC, 0, 0, 0);
         term = tree::next_at(tree, term);
         left -= 1;
     }
     let t = expr(tree, term, ws, s, looping, levels);
-    put_post(tree, at, ws, t, 18, 0, 0)
+    put_post(tree, at, ws, t, opcodes::ADD_LAST, 0, 0)
 }
 
 fn mul(tree: &[u8], at: usize, ws: &mut [u32], st: State, looping: bool, levels: u16) -> State
     ensures { λ r. ⌜ _≡_ {A = Held} (r, now (ws .exit)) (R.under (now (tree .entry)) levels (R.mul (now (tree .entry))) at looping (st, now (ws .entry))) ⌝ }
 {
     if tree::count_at(tree, at) < 2 {
-        return builder::failed(ws, st, 7);
+        return builder::failed(ws, st, refusals::FAILED);
     }
     let s = binary(tree, tree::first_at(tree, at), ws, st, looping, levels);
-    let t = put_post(tree, at, ws, s, 19, 0, 0);
+    let t = put_post(tree, at, ws, s, opcodes::MUL, 0, 0);
     pop(t, 1)
 }
 
 fn divisor(tree: &[u8]) -> u8
     ensures { λ r. ⌜ r ≡ bit (eqb (be8 (now (tree .entry)) 0 6) 1) ⌝ }
 {
-    if wire::get_u8(tree, 0, 6) == 1 {
-        return 1;
+    if wire::get_u8(tree, 0, DIVISOR) == 1 {
+        return subs::ABSOLUTE;
     }
-    0
+    subs::SIGNED
 }
 
 // The second child first; its guard pushes the divisor.
@@ -525,15 +552,15 @@ fn div(tree: &[u8], at: usize, ws: &mut [u32], st: State, looping: bool, levels:
     ensures { λ r. ⌜ _≡_ {A = Held} (r, now (ws .exit)) (R.under (now (tree .entry)) levels (R.div (now (tree .entry))) at looping (st, now (ws .entry))) ⌝ }
 {
     if tree::count_at(tree, at) < 2 {
-        return builder::failed(ws, st, 7);
+        return builder::failed(ws, st, refusals::FAILED);
     }
     let a = tree::first_at(tree, at);
     let s = expr(tree, tree::next_at(tree, a), ws, st, looping, levels);
-    let e = guard(ws, s, 20, divisor(tree), 0);
+    let e = guard(ws, s, opcodes::DIV_GUARD, divisor(tree), 0);
     let g = e.state;
     let t = steps::operand(g);
     let u = expr(tree, a, ws, t, looping, levels);
-    let v = put_post(tree, at, ws, u, 21, 0, 0);
+    let v = put_post(tree, at, ws, u, opcodes::DIV, 0, 0);
     let w = pop(v, 1);
     land(ws, w, e.index)
 }
@@ -553,14 +580,14 @@ fn math(
     let s = flag(st, bits);
     let p = payload::payload_at(tree, at);
     let Payload::HostMath(f) = p else {
-        return builder::failed(ws, s, 7);
+        return builder::failed(ws, s, refusals::FAILED);
     };
     let count = tree::count_at(tree, at);
     if count == 0 {
-        return builder::failed(ws, s, 7);
+        return builder::failed(ws, s, refusals::FAILED);
     }
     if count > 255 {
-        return builder::failed(ws, s, 7);
+        return builder::failed(ws, s, refusals::FAILED);
     }
     let t = hosted(tree, at, ws, s, f, count as u8, count - 1, looping, levels);
     pop(t, count - 1)
@@ -590,7 +617,7 @@ fn hosted(
         left -= 1;
     }
     let t = expr(tree, argument, ws, s, looping, levels);
-    put_post(tree, at, ws, t, 22, k, f as u32)
+    put_post(tree, at, ws, t, opcodes::HOST_MATH, k, f as u32)
 }
 
 // ---- calls
@@ -601,17 +628,17 @@ fn arrow(tree: &[u8], at: usize, ws: &mut [u32], st: State, looping: bool, level
 {
     let s = flag(not_float_only(st), Flags::USES_ARROW);
     if tree::count_at(tree, at) < 2 {
-        return builder::failed(ws, s, 7);
+        return builder::failed(ws, s, refusals::FAILED);
     }
     let p = post(tree, at, ws, s);
     let x = p.state;
     let q = p.index;
     let a = tree::first_at(tree, at);
     let t = expr(tree, a, ws, x, looping, levels);
-    let e = guard(ws, t, 37, 0, q.0);
+    let e = guard(ws, t, opcodes::POINTER_ENTER, 0, q.0);
     let g = e.state;
     let u = expr(tree, tree::next_at(tree, a), ws, g, looping, levels);
-    let v = instr(ws, u, 38, 0, 0, q.0);
+    let v = instr(ws, u, opcodes::POINTER_LEAVE, 0, 0, q.0);
     land(ws, v, e.index)
 }
 
@@ -620,7 +647,7 @@ fn query(tree: &[u8], at: usize, ws: &mut [u32], st: State, levels: u16) -> Stat
 {
     let p = payload::payload_at(tree, at);
     let Payload::Query(q) = p else {
-        return builder::failed(ws, st, 7);
+        return builder::failed(ws, st, refusals::FAILED);
     };
     let count = tree::count_at(tree, at);
     let s = steps::query_flags(st, count == 0);
@@ -628,7 +655,7 @@ fn query(tree: &[u8], at: usize, ws: &mut [u32], st: State, levels: u16) -> Stat
     let e = calls::begin_call(ws, s, q.index, q.impl_idx, count);
     let g = e.state;
     let t = passed(tree, ws, g, tree::first_at(tree, at), count, first, levels);
-    put_post(tree, at, ws, t, 39, 0, e.index.0 as u32)
+    put_post(tree, at, ws, t, opcodes::CALL, 0, e.index.0 as u32)
 }
 
 // Each argument is a segment of its own, without loops; its start goes to its slot.
@@ -666,15 +693,15 @@ fn coalesce(tree: &[u8], at: usize, ws: &mut [u32], st: State, looping: bool, le
     ensures { λ r. ⌜ _≡_ {A = Held} (r, now (ws .exit)) (R.under (now (tree .entry)) levels (R.coalesce (now (tree .entry))) at looping (st, now (ws .entry))) ⌝ }
 {
     if tree::count_at(tree, at) < 2 {
-        return builder::failed(ws, st, 7);
+        return builder::failed(ws, st, refusals::FAILED);
     }
     let a = tree::first_at(tree, at);
-    let e = guard(ws, st, 35, 0, 0);
+    let e = guard(ws, st, opcodes::HANDLER_PUSH, 0, 0);
     let g = e.state;
     let s = steps::enter_handler(g);
     let t = expr(tree, a, ws, s, looping, levels);
     let u = steps::leave_handler(t);
-    let f = guard(ws, u, 36, 0, 0);
+    let f = guard(ws, u, opcodes::HANDLER_POP, 0, 0);
     let i = f.state;
     let v = land(ws, i, e.index);
     let w = expr(tree, tree::next_at(tree, a), ws, v, looping, levels);
@@ -705,15 +732,15 @@ fn choose(tree: &[u8], at: usize, ws: &mut [u32], st: State, looping: bool, leve
     ensures { λ r. ⌜ _≡_ {A = Held} (r, now (ws .exit)) (R.under (now (tree .entry)) levels (R.conditional (now (tree .entry))) at looping (st, now (ws .entry))) ⌝ }
 {
     if tree::count_at(tree, at) < 2 {
-        return builder::failed(ws, st, 7);
+        return builder::failed(ws, st, refusals::FAILED);
     }
     let a = tree::first_at(tree, at);
     let b = tree::next_at(tree, a);
     let s = expr(tree, a, ws, st, looping, levels);
-    let e = guard(ws, s, 33, 0, 0);
+    let e = guard(ws, s, opcodes::JUMP_IF_FALSY, 0, 0);
     let g = e.state;
     let t = expr(tree, b, ws, g, looping, levels);
-    let f = guard(ws, t, 32, 0, 0);
+    let f = guard(ws, t, opcodes::JUMP, 0, 0);
     let i = f.state;
     let u = land(ws, i, e.index);
     let v = other(tree, at, b, ws, u, looping, levels);
@@ -740,7 +767,7 @@ fn block(tree: &[u8], at: usize, ws: &mut [u32], st: State, looping: bool, level
 fn item(tree: &[u8], at: usize, ws: &mut [u32], st: State, looping: bool, levels: u16) -> State
     ensures { λ r. ⌜ _≡_ {A = Held} (r, now (ws .exit)) (R.under (now (tree .entry)) levels (R.statement (now (tree .entry))) at looping (st, now (ws .entry))) ⌝ }
 {
-    if assign::rule_at(tree, at) == 44 {
+    if assign::rule_at(tree, at) == operators::RETURN {
         return ret(tree, at, ws, st, looping, levels);
     }
     expr(tree, at, ws, st, looping, levels)
@@ -751,14 +778,14 @@ fn ret(tree: &[u8], at: usize, ws: &mut [u32], st: State, looping: bool, levels:
     ensures { λ r. ⌜ _≡_ {A = Held} (r, now (ws .exit)) (R.returned (now (tree .entry)) levels at looping (st, now (ws .entry))) ⌝ }
 {
     if levels == 0 {
-        return builder::failed(ws, st, 7);
+        return builder::failed(ws, st, refusals::FAILED);
     }
     if tree::count_at(tree, at) == 0 {
         let s = interning::constant(ws, st, 0);
-        return put_post(tree, at, ws, s, 46, 0, 0);
+        return put_post(tree, at, ws, s, opcodes::RETURN, 0, 0);
     }
     let s = expr(tree, tree::first_at(tree, at), ws, st, looping, levels - 1);
-    put_post(tree, at, ws, s, 46, 0, 0)
+    put_post(tree, at, ws, s, opcodes::RETURN, 0, 0)
 }
 
 // counted_loop in the Rust: the count, and the body so often.
@@ -767,11 +794,11 @@ fn repeat(tree: &[u8], at: usize, ws: &mut [u32], st: State, looping: bool, leve
 {
     let s = flag(st, Flags::HAS_LOOPS);
     if tree::count_at(tree, at) < 2 {
-        return builder::failed(ws, s, 7);
+        return builder::failed(ws, s, refusals::FAILED);
     }
     let a = tree::first_at(tree, at);
     let t = expr(tree, a, ws, s, looping, levels);
-    let e = guard(ws, t, 40, 0, 0);
+    let e = guard(ws, t, opcodes::LOOP_BEGIN, 0, 0);
     let g = e.state;
     let u = steps::enter_loop(steps::operand(g));
     let v = expr(tree, tree::next_at(tree, a), ws, u, true, levels);
@@ -785,7 +812,7 @@ fn for_each(tree: &[u8], at: usize, ws: &mut [u32], st: State, looping: bool, le
 {
     let s = not_float_only(flag(st, Flags::HAS_LOOPS));
     if tree::count_at(tree, at) < 3 {
-        return builder::failed(ws, s, 7);
+        return builder::failed(ws, s, refusals::FAILED);
     }
     let v = control::variable(tree, tree::first_at(tree, at), ws, s);
     let t = v.state;
@@ -810,7 +837,7 @@ fn each(
 {
     let b = tree::next_at(tree, tree::first_at(tree, at));
     let s = expr(tree, b, ws, st, looping, levels);
-    let e = guard(ws, s, 43, 0, 0);
+    let e = guard(ws, s, opcodes::EACH_BEGIN, 0, 0);
     let g = e.state;
     let f = guard(ws, g, op, 0, k);
     let i = f.state;

@@ -8,6 +8,7 @@ use crate::values::float_bits;
 use builder::State;
 use payload::Payload;
 use program::PostIdx;
+use program::opcodes;
 ghost use mathlib.Core.Path.{_≡_};
 ghost use mathlib.Core.List.{List};
 ghost use Rattle.builder.specs.Steps.{Held};
@@ -25,7 +26,7 @@ pub(crate) fn compare_const(
 {
     let p = payload::payload_at(tree, at);
     let e = interning::konst(ws, st, constant_bits(p));
-    const_instr(ws, e, 24, o, q)
+    const_instr(ws, e, opcodes::CMP_CONST, o, q)
 }
 
 // A hash is compared as a hash, anything else as a float.
@@ -42,9 +43,9 @@ pub(crate) fn equal_const(
     let p = payload::payload_at(tree, at);
     let Payload::Hash(h) = p else {
         let e = interning::konst(ws, st, float_bits(p));
-        return const_instr(ws, e, 26, o, q);
+        return const_instr(ws, e, opcodes::EQ_CONST, o, q);
     };
     let s = not_float_only(st);
     let e = interning::hash(ws, s, h);
-    hash_instr(ws, e, 27, o, q)
+    hash_instr(ws, e, opcodes::EQ_HASH, o, q)
 }

@@ -11,6 +11,7 @@ use crate::interning::TempEntry;
 use builder::State;
 use numeric::PostBits;
 use program::PostIdx;
+use program::opcodes;
 ghost use mathlib.Core.Path.{_≡_};
 ghost use mathlib.Core.List.{List};
 ghost use Rattle.builder.specs.Steps.{Held};
@@ -133,7 +134,7 @@ pub(crate) fn post_instr(tree: &[u8], at: usize, ws: &mut [u32], st: State) -> S
     if numeric::is_identity(p) {
         return builder::flush(ws, st);
     }
-    put_post(tree, at, ws, st, 34, 0, 0)
+    put_post(tree, at, ws, st, opcodes::POST, 0, 0)
 }
 
 // An instruction whose target is not known yet, and its place in the open segment.

@@ -4,9 +4,6 @@ use program::Flags;
 ghost use mathlib.Core.Path.{_≡_};
 ghost use Rattle.lowering.specs.Steps.{operandEntered, popped, loopEntered, loopLeft, handlerEntered, handlerLeft, flagged, notFloatOnly, queried};
 
-// All bits but FLOAT_ONLY.
-const NOT_FLOAT: u16 = 2046;
-
 // One more operand, which no Push puts there.
 pub(crate) fn operand(st: State) -> State
     ensures { λ r. ⌜ r ≡ operandEntered st ⌝ }
@@ -81,7 +78,7 @@ pub(crate) fn not_float_only(st: State) -> State
     ensures { λ r. ⌜ r ≡ notFloatOnly st ⌝ }
 {
     let mut s = st;
-    s.flags = s.flags & NOT_FLOAT;
+    s.flags = s.flags & Flags::NOT_FLOAT;
     s.float_loop = false;
     s
 }
@@ -91,7 +88,7 @@ pub(crate) fn query_flags(st: State, alone: bool) -> State
     ensures { λ r. ⌜ r ≡ queried alone st ⌝ }
 {
     let mut s = st;
-    s.flags = (s.flags & NOT_FLOAT) | Flags::USES_QUERIES;
+    s.flags = (s.flags & Flags::NOT_FLOAT) | Flags::USES_QUERIES;
     if alone {
         return s;
     }

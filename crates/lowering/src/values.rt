@@ -9,11 +9,13 @@ use crate::parts::temp_instr;
 use crate::steps::flag;
 use crate::steps::not_float_only;
 use builder::State;
+use builder::refusals;
 use numeric::PostBits;
 use payload::NameRef;
 use payload::Payload;
 use program::Flags;
 use program::PostIdx;
+use program::opcodes;
 ghost use mathlib.Core.Path.{_≡_};
 ghost use mathlib.Core.List.{List};
 ghost use Prim.Native.Nat.{_%_};
@@ -106,7 +108,7 @@ pub(crate) fn string_literal(tree: &[u8], at: usize, ws: &mut [u32], st: State) 
     let s = not_float_only(st);
     let p = payload::payload_at(tree, at);
     let e = interning::hash(ws, s, string_hash(p));
-    hash_instr(ws, e, 2, 0, PostIdx::PLAIN)
+    hash_instr(ws, e, opcodes::HASH, 0, PostIdx::PLAIN)
 }
 
 pub(crate) fn resource(tree: &[u8], at: usize, ws: &mut [u32], st: State) -> State
@@ -115,7 +117,7 @@ pub(crate) fn resource(tree: &[u8], at: usize, ws: &mut [u32], st: State) -> Sta
     let s = not_float_only(st);
     let p = payload::payload_at(tree, at);
     let e = interning::hash(ws, s, resource_hash(p));
-    hash_instr(ws, e, 3, 0, PostIdx::PLAIN)
+    hash_instr(ws, e, opcodes::RESOURCE, 0, PostIdx::PLAIN)
 }
 
 // The node's constant with its post folded in.
@@ -132,11 +134,11 @@ fn load_context(tree: &[u8], at: usize, ws: &mut [u32], st: State, q: PostIdx) -
 {
     let p = payload::payload_at(tree, at);
     let Payload::Context(n) = p else {
-        return builder::failed(ws, st, 7);
+        return builder::failed(ws, st, refusals::FAILED);
     };
     let s = flag(st, Flags::READS_CONTEXT);
     let e = interning::name(ws, s, n);
-    name_instr(ws, e, 7, 0, q)
+    name_instr(ws, e, opcodes::LOAD_CTX, 0, q)
 }
 
 fn load_temp(tree: &[u8], at: usize, ws: &mut [u32], st: State, q: PostIdx) -> State
@@ -147,7 +149,7 @@ fn load_temp(tree: &[u8], at: usize, ws: &mut [u32], st: State, q: PostIdx) -> S
         return load_context(tree, at, ws, st, q);
     };
     let e = interning::temp(ws, st, n);
-    temp_instr(ws, e, 6, 0, q)
+    temp_instr(ws, e, opcodes::LOAD_TEMP, 0, q)
 }
 
 fn load_var(tree: &[u8], at: usize, ws: &mut [u32], st: State, q: PostIdx) -> State
@@ -159,7 +161,7 @@ fn load_var(tree: &[u8], at: usize, ws: &mut [u32], st: State, q: PostIdx) -> St
     };
     let s = flag(st, Flags::READS_ACTOR_VARS);
     let e = interning::name(ws, s, n);
-    name_instr(ws, e, 5, 0, q)
+    name_instr(ws, e, opcodes::LOAD_VAR, 0, q)
 }
 
 // A variable, whatever the operator: the payload tells its kind.
@@ -179,15 +181,15 @@ pub(crate) fn member_put(tree: &[u8], at: usize, ws: &mut [u32], st: State, last
 {
     let p = payload::payload_at(tree, at);
     let Payload::Member(n) = p else {
-        return builder::failed(ws, st, 7);
+        return builder::failed(ws, st, refusals::FAILED);
     };
     let e = interning::member(ws, st, n, last);
-    member_put_post(tree, at, ws, e, 9)
+    member_put_post(tree, at, ws, e, opcodes::MEMBER)
 }
 
 pub(crate) fn array_put(tree: &[u8], at: usize, ws: &mut [u32], st: State, n: NameRef) -> State
     ensures { λ r. ⌜ _≡_ {A = Held} (r, now (ws .exit)) (R.arrayPut (now (tree .entry)) at n (st, now (ws .entry))) ⌝ }
 {
     let e = interning::name(ws, st, n);
-    name_put_post(tree, at, ws, e, 8)
+    name_put_post(tree, at, ws, e, opcodes::ARRAY_ELEMENT)
 }

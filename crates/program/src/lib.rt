@@ -1,4 +1,6 @@
-// The kinds of index, each a type of its own, with the constants that stand with them.
+// The kinds of index, each a type of its own, with the constants that stand with them; opcodes, subs, flags, and which opcodes have a target.
+pub mod opcodes;
+pub mod subs;
 pub mod targets;
 
 ghost use mathlib.Core.Path.{_≡_};
@@ -93,4 +95,10 @@ impl Flags {
     pub const USES_RANDOM: u16 = 512;
 
     pub const USES_RANDOM_OP: u16 = 1024;
+
+    // Both bits of a volatile host function.
+    pub const RANDOM: u16 = 1536;
+
+    // All bits but FLOAT_ONLY.
+    pub const NOT_FLOAT: u16 = 2046;
 }

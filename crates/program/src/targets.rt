@@ -1,4 +1,5 @@
 // The opcodes that have a target.
+use crate::opcodes;
 ghost use mathlib.Core.Path.{_≡_};
 ghost use Rattle.program.specs.Targets.{shiftOf};
 
@@ -7,19 +8,19 @@ pub fn shift(op: u8, base: u32) -> u32
     ensures { λ r. ⌜ r ≡ shiftOf op base ⌝ }
 {
     match op {
-        20 => base,
-        28 => base,
-        29 => base,
-        32 => base,
-        33 => base,
-        35 => base,
-        36 => base,
-        37 => base,
-        40 => base,
-        41 => base,
-        43 => base,
-        44 => base,
-        45 => base,
+        opcodes::DIV_GUARD => base,
+        opcodes::AND_STEP => base,
+        opcodes::OR_STEP => base,
+        opcodes::JUMP => base,
+        opcodes::JUMP_IF_FALSY => base,
+        opcodes::HANDLER_PUSH => base,
+        opcodes::HANDLER_POP => base,
+        opcodes::POINTER_ENTER => base,
+        opcodes::LOOP_BEGIN => base,
+        opcodes::LOOP_CHECK => base,
+        opcodes::EACH_BEGIN => base,
+        opcodes::EACH_NEXT_VAR => base,
+        opcodes::EACH_NEXT_TEMP => base,
         _ => 0,
     }
 }

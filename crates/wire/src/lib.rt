@@ -1,6 +1,7 @@
 // Big-endian numbers read in bytes. Past the end a byte reads 0.
 ghost use mathlib.Core.Path.{_≡_};
 ghost use Prim.Native.Nat.{_+_, _*_, _≤_};
+ghost use lib.ListN.{length};
 ghost use Rattle.wire.specs.Bytes.{be8, be16, be32, be64};
 
 // The byte at `p + k`.
@@ -43,10 +44,24 @@ pub fn get_u16(s: &[u8], p: usize, k: u16) -> u16
     two(get_u8(s, p, i), get_u8(s, p, i + 1))
 }
 
+// The same, where all four bytes are there: the compiler makes one load of them.
+fn four_at(s: &[u8], p: usize, k: u32) -> u32
+    requires { ⌜ p + (k + 4) ≤ length (now s) ⌝ }
+    ensures { λ r. ⌜ r ≡ be32 (now (s .entry)) p k ⌝ }
+{
+    let i = p + (k as usize);
+    four(s[i], s[i + 1], s[i + 2], s[i + 3])
+}
+
 fn word(s: &[u8], p: usize, k: u32) -> u32
     requires { ⌜ k ≤ 65539 ⌝ }
     ensures { λ r. ⌜ r ≡ be32 (now (s .entry)) p k ⌝ }
 {
+    if p < s.len() {
+        if (k as usize) + 4 <= s.len() - p {
+            return four_at(s, p, k);
+        }
+    }
     four(
         get_u8(s, p, k),
         get_u8(s, p, k + 1),
