@@ -3,6 +3,7 @@ use crate::pools;
 use crate::regions;
 use builder::State;
 use numeric::PostBits;
+use numeric::PostOp;
 use payload::NameRef;
 use program::CallIdx;
 use program::ConstIdx;
@@ -15,7 +16,7 @@ use program::TempIdx;
 ghost use mathlib.Core.Path.{_≡_};
 ghost use mathlib.Core.List.{List};
 ghost use Prim.Native.Nat.{_/_, _%_};
-ghost use Rattle.numeric.specs.PostOp.{patterns};
+ghost use Rattle.numeric.specs.PostOp.{patterns, postOf};
 ghost use Rattle.lowering.specs.Pools.{Found, konst, post, hash, name, slot, temp, member, textPlace, after, constant};
 ghost use Rattle.lowering.specs.Kinds.{ofConst, ofHash, ofName, ofTemp, ofMember, ofPost};
 ghost use Rattle.builder.specs.Steps.{Held};
@@ -203,11 +204,12 @@ fn behind_plain(index: u16) -> u16
     65535
 }
 
-// A post, by both bit patterns; the identity is slot 0 and is not looked up.
-pub(crate) fn post_of(ws: &mut [u32], st: State, bits: PostBits) -> PostEntry
+// A post, looked up by its bit patterns, which go beside it since no float keeps a NaN's; the identity is slot 0 and is not looked up.
+pub(crate) fn post_of(ws: &mut [u32], st: State, p: PostOp, bits: PostBits) -> PostEntry
+    requires { ⌜ p ≡ postOf (patterns bits) ⌝ }
     ensures { λ r. ⌜ _≡_ {A = Found} (ofPost r, now (ws .exit)) (post (patterns bits) (st, now (ws .entry))) ⌝ }
 {
-    if numeric::is_identity(bits) {
+    if p.is_identity() {
         return PostEntry {
             state: st,
             index: PostIdx::PLAIN,

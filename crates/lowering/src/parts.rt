@@ -10,6 +10,7 @@ use crate::interning::StoreEntry;
 use crate::interning::TempEntry;
 use builder::State;
 use numeric::PostBits;
+use numeric::PostOp;
 use program::PostIdx;
 use program::opcodes;
 ghost use mathlib.Core.Path.{_≡_};
@@ -77,11 +78,12 @@ pub(crate) fn store_instr(ws: &mut [u32], e: StoreEntry, op: u8, sub: u8, q: Pos
 pub(crate) fn post(tree: &[u8], at: usize, ws: &mut [u32], st: State) -> PostEntry
     ensures { λ r. ⌜ _≡_ {A = Found} (ofPost r, now (ws .exit)) (B.post (postBits (now (tree .entry)) at) (st, now (ws .entry))) ⌝ }
 {
-    let p = PostBits {
+    let bits = PostBits {
         scale: tree::scale_at(tree, at),
         offset: tree::offset_at(tree, at),
     };
-    interning::post_of(ws, st, p)
+    let p = PostOp::of_bits(bits.scale, bits.offset);
+    interning::post_of(ws, st, p, bits)
 }
 
 // An instruction with the node's post.

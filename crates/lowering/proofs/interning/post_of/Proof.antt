@@ -1,6 +1,10 @@
 use mathlib.Core.Path.{_≡_, refl, sym, ap, _∙_}
-use Prim.Native.Nat.{ℕ}
-use lib.Bits.{bitOr}
+use mathlib.Core.Bool.{Bool}
+use Prim.Native.Nat.{ℕ, _<_}
+use Rattle.numeric.specs.Post.{Post, isIdentity}
+use Rattle.numeric.specs.PostOp.{patterns, postOf, identityOp}
+use Rattle.numeric.specs.declared.PostOp.{PostOp}
+use Rattle.numeric.proofs.Identity.{identity-is}
 use Rattle.builder.specs.Fields.{set-posts, set-flags}
 use Rattle.builder.specs.Steps.{Held}
 use Rattle.lowering.specs.Pools.{Found, post, after}
@@ -12,15 +16,22 @@ use Rattle.lowering.proofs.interning.post_of.Tie as tie
 use Rattle.lowering.proofs.interning.post_of.Reads as reads
 use Rattle.lowering.proofs.interning.post_of.Lts as lts
 use Rattle.lowering.proofs.interning.behind_plain.Reads as behind-plain-reads
-use Rattle.numeric.proofs.is_identity.Reads as is-identity-reads
+use Rattle.numeric.proofs.PostOp.is_identity.Reads as is-identity-reads
 use Rattle.lowering.proofs.pools.intern_pair.Reads as intern-pair-reads
+
+-- the test of the floats is the test of their patterns
+tested : (q : PostOp) (p : Post) {b : Bool} → p .scale < 4294967296 → p .offset < 4294967296 → q ≡ postOf p → b ≡ identityOp q → isIdentity p ≡ b
+tested q p hs ho e t = sym (identity-is p hs ho) ∙ ap identityOp (sym e) ∙ sym t
 
 is-identity-requires : tie.Need-is-identity-requires
 is-identity-requires c κs = search needs
 
 returns : tie.Need-returns
 unfolding post
-returns c = sym (chosen-yes {A = Found} _ _ _ (sym (c .before .is-identity .ensures) ∙ c .if1 .taken))
+returns c =
+    let s = c .before .before .before in
+    let held = s .good .1 .1 .1 .0 .1 .1 in
+    sym (chosen-yes {A = Found} _ _ _ (tested (s .args .p) (patterns (s .args .bits)) (held .0 .1) (held .1 .0 .1) (s .pre) (c .before .is-identity .ensures) ∙ c .if1 .taken))
 
 intern-pair-requires : tie.Need-intern-pair-requires
 intern-pair-requires c κs = search needs
@@ -33,7 +44,11 @@ same-length c = search needs
 
 returns-2 : tie.Need-returns-2
 unfolding post
-returns-2 c = _∙_ {A = Found} (entered-as after (λ n. set-posts n (c .before .before .before .before .before .before .before .before .args .st)) _ _ _ (c .before .before .before .intern-pair .ensures .0) (c .behind-plain .ensures) (c .before .before .before .intern-pair .ensures .1)) (sym (chosen-no {A = Found} _ _ _ (sym (c .before .before .before .before .before .before .is-identity .ensures) ∙ c .before .before .before .before .before .if1 .left)))
+returns-2 c =
+    let s = c .before .before .before .before .before .before .before .before in
+    let held = s .good .1 .1 .1 .0 .1 .1 in
+    _∙_ {A = Found} (entered-as after (λ n. set-posts n (s .args .st)) _ _ _ (c .before .before .before .intern-pair .ensures .0) (c .behind-plain .ensures) (c .before .before .before .intern-pair .ensures .1))
+    (sym (chosen-no {A = Found} _ _ _ (tested (s .args .p) (patterns (s .args .bits)) (held .0 .1) (held .1 .0 .1) (s .pre) (c .before .before .before .before .before .before .is-identity .ensures) ∙ c .before .before .before .before .before .if1 .left)))
 
 pub post-of-spec : {M : Type 1} → statement M
 post-of-spec =

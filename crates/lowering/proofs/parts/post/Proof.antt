@@ -13,6 +13,9 @@ scale-at-requires c κs = search needs
 offset-at-requires : tie.Need-offset-at-requires
 offset-at-requires c κs = search needs
 
+of-bits-requires : tie.Need-of-bits-requires
+of-bits-requires c κs = search needs
+
 post-of-requires : tie.Need-post-of-requires
 post-of-requires c κs = search needs
 
@@ -21,9 +24,9 @@ same-length c = search needs
 
 returns : tie.Need-returns
 returns c =
-    let a = c .before .before .before .before .before .before .before .before .args in
-    _∙_ {A = Found} (c .before .before .post-of .ensures) (ap (λ (p : Post). B.post p (a .st, a .ws .now)) (same-post (c .before .before .before .before .before .scale-at .ensures) (c .before .before .before .before .offset-at .ensures)))
+    let offset-read = c .before .before .before .before .before in
+    let a = offset-read .before .before .before .before .args in
+    _∙_ {A = Found} (c .before .before .post-of .ensures) (ap (λ (p : Post). B.post p (a .st, a .ws .now)) (same-post (offset-read .before .scale-at .ensures) (offset-read .offset-at .ensures)))
 
 pub post-spec : {M : Type 1} → statement M
-post-spec =
-    tie.close (tie.spec scale-at-requires offset-at-requires post-of-requires same-length returns)
+post-spec = tie.close (tie.spec scale-at-requires offset-at-requires of-bits-requires post-of-requires same-length returns)
