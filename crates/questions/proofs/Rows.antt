@@ -51,3 +51,11 @@ pub next-level : (l : ℕ) (s : List ℕ) (p : ℕ) → (l ≡ 0 → ⊥)
 unfolding filled
 next-level zero s p f = absurd (f refl)
 next-level (suc l) s p f = rw (sub-one (suc l))
+
+-- a node that is right inside, by what the code reads of its count, its first child's place and what follows it
+module _ (l : ℕ) (s : List ℕ) (p : ℕ) {k a z : ℕ} (some : l ≡ 0 → ⊥) (ek : k ≡ countAt s p) (ea : a ≡ firstAt s p) (ez : z ≡ nextAt s p) where
+  pub filled-some : filled l s p ≡ row (filled (l - 1) s) s k a z
+  filled-some = rw (ek, ea, ez) (next-level l s p some)
+
+  pub filled-none : k ≡ 0 → filled l s p ≡ eqb a z
+  filled-none h = filled-some ∙ row-end (filled (l - 1) s) s k a z h

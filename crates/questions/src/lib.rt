@@ -23,7 +23,8 @@ fn fits_at(s: &[u8], p: usize, size: u16, end: usize) -> bool
     false
 }
 
-// From `p` on `n` nodes stand one behind the other up to `end`, each right inside to so many levels. A payload's size is read once; count and children stand behind it.
+// From `p` on `n` nodes stand one behind the other up to `end`, each right inside to so many levels.
+// A payload's size is read once; count and children stand behind it. Most nodes have no children, and are told without a call.
 fn row_at(s: &[u8], levels: u16, n: u16, p: usize, end: usize) -> bool
     ensures { λ r. ⌜ r ≡ row (filled levels (now (s .entry))) (now (s .entry)) n p end ⌝ }
 {
@@ -36,13 +37,14 @@ fn row_at(s: &[u8], levels: u16, n: u16, p: usize, end: usize) -> bool
             return false;
         }
         let next = tree::next_at(s, p);
-        if row_at(
-            s,
-            levels - 1,
-            wire::get_u16(s, p, 14 + size),
-            tree::place(s, p, 16 + (size as usize)),
-            next,
-        ) {
+        let count = wire::get_u16(s, p, 14 + size);
+        let first = tree::place(s, p, 16 + (size as usize));
+        let inside = if count == 0 {
+            first == next
+        } else {
+            row_at(s, levels - 1, count, first, next)
+        };
+        if inside {
             return row_at(s, levels, n - 1, next, end);
         }
         return false;
