@@ -4,10 +4,11 @@ use mathlib.Core.List.{List, [], _∷_}
 use Prim.Native.Nat.{ℕ, zero, suc}
 use lib.ListN.{length, getD}
 use Rattle.wire.specs.Bytes.{be}
-use Rattle.wire.specs.Reader.{Got, got, _and_, u, entries, times, list, lists}
+use Rattle.wire.specs.Reader.{Got, got, _>>=_, _and_, u, entries, times, list, lists}
 use Rattle.numeric.specs.Post.{Post}
 use Rattle.ast.specs.Tree.{Name}
-use Rattle.program.specs.Instruction.{Plain, const, hash, resource, this, negate, not, andLast, orLast, post, pointerLeave, storeVar, storeTemp, storeMember, cmpConst, eqConst, eqHash, addAcc, Taking, addLast, mul, div, cmp, eq, hostMath, Reading, loadVar, loadTemp, loadCtx, arrayElement, member, Guard, divGuard, andStep, orStep, pointerEnter, jumpIfFalsy, EachNext, eachNextVar, eachNextTemp, Instruction, plain, taking, reading, guard, push, loopEnd, halt, end, pushConst, jump, handlerPush, handlerPop, loopBegin, loopCheck, eachBegin, return, eachNext, call}
+use Rattle.program.specs.Instruction as I
+use Rattle.program.specs.Instruction.{Instruction}
 use Rattle.program.specs.Program.{Counts, MemberEntry, StoreRoot, rootVar, rootTemp, rootOther, MemberStore, QueryCall, Program}
 
 -- 01, The program image: "An instruction is 8 bytes: opcode, sub, A (4), B (2)."
@@ -30,76 +31,89 @@ isSet (suc n) = true
 
 -- 01, The program image: "Sub: .. A is the target or pool index, or HostMath's function, else 0. B is the post; in EachNextVar and EachNextTemp, A is the exit and B the variable; else 0."
 unfoldable pub wordOf : Instruction → Word
-wordOf (plain (const c)) = word 1 0 c 0
-wordOf (plain (hash h)) = word 2 0 h 0
-wordOf (plain (resource h)) = word 3 0 h 0
-wordOf (plain (this p)) = word 4 0 0 p
-wordOf (reading (loadVar n p)) = word 5 0 n p
-wordOf (reading (loadTemp n p)) = word 6 0 n p
-wordOf (reading (loadCtx n p)) = word 7 0 n p
-wordOf (reading (arrayElement n p)) = word 8 0 n p
-wordOf (reading (member n p)) = word 9 0 n p
-wordOf (plain (storeVar n p)) = word 10 0 n p
-wordOf (plain (storeTemp n p)) = word 11 0 n p
-wordOf (plain (storeMember n p)) = word 12 0 n p
-wordOf push = word 13 0 0 0
-wordOf (pushConst c) = word 14 0 c 0
-wordOf (plain (negate p)) = word 15 0 0 p
-wordOf (plain (not p)) = word 16 0 0 p
-wordOf (plain addAcc) = word 17 0 0 0
-wordOf (taking (addLast p)) = word 18 0 0 p
-wordOf (taking (mul p)) = word 19 0 0 p
-wordOf (guard (divGuard d) t) = word 20 (bit d) t 0
-wordOf (taking (div p)) = word 21 0 0 p
-wordOf (taking (hostMath f n p)) = word 22 n f p
-wordOf (taking (cmp o p)) = word 23 o 0 p
-wordOf (plain (cmpConst o c p)) = word 24 o c p
-wordOf (taking (eq o p)) = word 25 o 0 p
-wordOf (plain (eqConst o c p)) = word 26 o c p
-wordOf (plain (eqHash o c p)) = word 27 o c p
-wordOf (guard (andStep p) t) = word 28 0 t p
-wordOf (guard (orStep p) t) = word 29 0 t p
-wordOf (plain (andLast p)) = word 30 0 0 p
-wordOf (plain (orLast p)) = word 31 0 0 p
-wordOf (jump t) = word 32 0 t 0
-wordOf (guard jumpIfFalsy t) = word 33 0 t 0
-wordOf (plain (post p)) = word 34 0 0 p
-wordOf (handlerPush t) = word 35 0 t 0
-wordOf (handlerPop t) = word 36 0 t 0
-wordOf (guard (pointerEnter p) t) = word 37 0 t p
-wordOf (plain (pointerLeave p)) = word 38 0 0 p
-wordOf (call q p) = word 39 0 q p
-wordOf (loopBegin t) = word 40 0 t 0
-wordOf (loopCheck t) = word 41 0 t 0
-wordOf loopEnd = word 42 0 0 0
-wordOf (eachBegin t) = word 43 0 t 0
-wordOf (eachNext (eachNextVar n) t) = word 44 0 t n
-wordOf (eachNext (eachNextTemp n) t) = word 45 0 t n
-wordOf (return p) = word 46 0 0 p
-wordOf halt = word 47 0 0 0
-wordOf end = word 48 0 0 0
+wordOf (I.plain (I.const c)) = word 1 0 c 0
+wordOf (I.plain (I.hash h)) = word 2 0 h 0
+wordOf (I.plain (I.resource h)) = word 3 0 h 0
+wordOf (I.plain (I.this p)) = word 4 0 0 p
+wordOf (I.reading (I.loadVar n p)) = word 5 0 n p
+wordOf (I.reading (I.loadTemp n p)) = word 6 0 n p
+wordOf (I.reading (I.loadCtx n p)) = word 7 0 n p
+wordOf (I.reading (I.arrayElement n p)) = word 8 0 n p
+wordOf (I.reading (I.member n p)) = word 9 0 n p
+wordOf (I.plain (I.storeVar n p)) = word 10 0 n p
+wordOf (I.plain (I.storeTemp n p)) = word 11 0 n p
+wordOf (I.plain (I.storeMember n p)) = word 12 0 n p
+wordOf I.push = word 13 0 0 0
+wordOf (I.pushConst c) = word 14 0 c 0
+wordOf (I.plain (I.negate p)) = word 15 0 0 p
+wordOf (I.plain (I.not p)) = word 16 0 0 p
+wordOf (I.plain I.addAcc) = word 17 0 0 0
+wordOf (I.taking (I.addLast p)) = word 18 0 0 p
+wordOf (I.taking (I.mul p)) = word 19 0 0 p
+wordOf (I.guard (I.divGuard d) t) = word 20 (bit d) t 0
+wordOf (I.taking (I.div p)) = word 21 0 0 p
+wordOf (I.taking (I.hostMath f n p)) = word 22 n f p
+wordOf (I.taking (I.cmp o p)) = word 23 o 0 p
+wordOf (I.plain (I.cmpConst o c p)) = word 24 o c p
+wordOf (I.taking (I.eq o p)) = word 25 o 0 p
+wordOf (I.plain (I.eqConst o c p)) = word 26 o c p
+wordOf (I.plain (I.eqHash o c p)) = word 27 o c p
+wordOf (I.guard (I.andStep p) t) = word 28 0 t p
+wordOf (I.guard (I.orStep p) t) = word 29 0 t p
+wordOf (I.plain (I.andLast p)) = word 30 0 0 p
+wordOf (I.plain (I.orLast p)) = word 31 0 0 p
+wordOf (I.jump t) = word 32 0 t 0
+wordOf (I.guard I.jumpIfFalsy t) = word 33 0 t 0
+wordOf (I.plain (I.post p)) = word 34 0 0 p
+wordOf (I.handlerPush t) = word 35 0 t 0
+wordOf (I.handlerPop t) = word 36 0 t 0
+wordOf (I.guard (I.pointerEnter p) t) = word 37 0 t p
+wordOf (I.plain (I.pointerLeave p)) = word 38 0 0 p
+wordOf (I.call q p) = word 39 0 q p
+wordOf (I.loopBegin t) = word 40 0 t 0
+wordOf (I.loopCheck t) = word 41 0 t 0
+wordOf I.loopEnd = word 42 0 0 0
+wordOf (I.eachBegin t) = word 43 0 t 0
+wordOf (I.eachNext (I.eachNextVar n) t) = word 44 0 t n
+wordOf (I.eachNext (I.eachNextTemp n) t) = word 45 0 t n
+wordOf (I.return p) = word 46 0 0 p
+wordOf I.halt = word 47 0 0 0
+wordOf I.end = word 48 0 0 0
 
 -- the instruction of each opcode from 0 on, by sub, A and B; 0 is none
 unfoldable pub shapes : List (ℕ → ℕ → ℕ → Instruction)
-shapes = (λ s a b. halt) ∷ (λ s a b. plain (const a)) ∷ (λ s a b. plain (hash a)) ∷ (λ s a b. plain (resource a)) ∷ (λ s a b. plain (this b))
-    ∷ (λ s a b. reading (loadVar a b)) ∷ (λ s a b. reading (loadTemp a b)) ∷ (λ s a b. reading (loadCtx a b)) ∷ (λ s a b. reading (arrayElement a b)) ∷ (λ s a b. reading (member a b))
-    ∷ (λ s a b. plain (storeVar a b)) ∷ (λ s a b. plain (storeTemp a b)) ∷ (λ s a b. plain (storeMember a b)) ∷ (λ s a b. push) ∷ (λ s a b. pushConst a)
-    ∷ (λ s a b. plain (negate b)) ∷ (λ s a b. plain (not b)) ∷ (λ s a b. plain addAcc) ∷ (λ s a b. taking (addLast b)) ∷ (λ s a b. taking (mul b))
-    ∷ (λ s a b. guard (divGuard (isSet s)) a) ∷ (λ s a b. taking (div b)) ∷ (λ s a b. taking (hostMath a s b)) ∷ (λ s a b. taking (cmp s b)) ∷ (λ s a b. plain (cmpConst s a b))
-    ∷ (λ s a b. taking (eq s b)) ∷ (λ s a b. plain (eqConst s a b)) ∷ (λ s a b. plain (eqHash s a b)) ∷ (λ s a b. guard (andStep b) a) ∷ (λ s a b. guard (orStep b) a)
-    ∷ (λ s a b. plain (andLast b)) ∷ (λ s a b. plain (orLast b)) ∷ (λ s a b. jump a) ∷ (λ s a b. guard jumpIfFalsy a) ∷ (λ s a b. plain (post b))
-    ∷ (λ s a b. handlerPush a) ∷ (λ s a b. handlerPop a) ∷ (λ s a b. guard (pointerEnter b) a) ∷ (λ s a b. plain (pointerLeave b)) ∷ (λ s a b. call a b)
-    ∷ (λ s a b. loopBegin a) ∷ (λ s a b. loopCheck a) ∷ (λ s a b. loopEnd) ∷ (λ s a b. eachBegin a) ∷ (λ s a b. eachNext (eachNextVar b) a) ∷ (λ s a b. eachNext (eachNextTemp b) a)
-    ∷ (λ s a b. return b) ∷ (λ s a b. halt) ∷ (λ s a b. end) ∷ []
+shapes = (λ s a b. I.halt) ∷ (λ s a b. I.plain (I.const a)) ∷ (λ s a b. I.plain (I.hash a)) ∷ (λ s a b. I.plain (I.resource a)) ∷ (λ s a b. I.plain (I.this b))
+    ∷ (λ s a b. I.reading (I.loadVar a b)) ∷ (λ s a b. I.reading (I.loadTemp a b)) ∷ (λ s a b. I.reading (I.loadCtx a b))
+    ∷ (λ s a b. I.reading (I.arrayElement a b)) ∷ (λ s a b. I.reading (I.member a b))
+    ∷ (λ s a b. I.plain (I.storeVar a b)) ∷ (λ s a b. I.plain (I.storeTemp a b)) ∷ (λ s a b. I.plain (I.storeMember a b))
+    ∷ (λ s a b. I.push) ∷ (λ s a b. I.pushConst a)
+    ∷ (λ s a b. I.plain (I.negate b)) ∷ (λ s a b. I.plain (I.not b)) ∷ (λ s a b. I.plain I.addAcc) ∷ (λ s a b. I.taking (I.addLast b))
+    ∷ (λ s a b. I.taking (I.mul b))
+    ∷ (λ s a b. I.guard (I.divGuard (isSet s)) a) ∷ (λ s a b. I.taking (I.div b)) ∷ (λ s a b. I.taking (I.hostMath a s b))
+    ∷ (λ s a b. I.taking (I.cmp s b)) ∷ (λ s a b. I.plain (I.cmpConst s a b))
+    ∷ (λ s a b. I.taking (I.eq s b)) ∷ (λ s a b. I.plain (I.eqConst s a b)) ∷ (λ s a b. I.plain (I.eqHash s a b))
+    ∷ (λ s a b. I.guard (I.andStep b) a) ∷ (λ s a b. I.guard (I.orStep b) a)
+    ∷ (λ s a b. I.plain (I.andLast b)) ∷ (λ s a b. I.plain (I.orLast b)) ∷ (λ s a b. I.jump a) ∷ (λ s a b. I.guard I.jumpIfFalsy a)
+    ∷ (λ s a b. I.plain (I.post b))
+    ∷ (λ s a b. I.handlerPush a) ∷ (λ s a b. I.handlerPop a) ∷ (λ s a b. I.guard (I.pointerEnter b) a)
+    ∷ (λ s a b. I.plain (I.pointerLeave b)) ∷ (λ s a b. I.call a b)
+    ∷ (λ s a b. I.loopBegin a) ∷ (λ s a b. I.loopCheck a) ∷ (λ s a b. I.loopEnd) ∷ (λ s a b. I.eachBegin a)
+    ∷ (λ s a b. I.eachNext (I.eachNextVar b) a) ∷ (λ s a b. I.eachNext (I.eachNextTemp b) a)
+    ∷ (λ s a b. I.return b) ∷ (λ s a b. I.halt) ∷ (λ s a b. I.end) ∷ []
 
 unfoldable pub instructionOf : Word → Instruction
-instructionOf w = getD shapes (w .opcode) (λ s a b. halt) (w .sub) (w .a) (w .b)
+instructionOf w = getD shapes (w .opcode) (λ s a b. I.halt) (w .sub) (w .a) (w .b)
 
 unfoldable pub putInstruction : Instruction → List ℕ → List ℕ
 putInstruction i r = be 1 (wordOf i .opcode) (be 1 (wordOf i .sub) (be 4 (wordOf i .a) (be 2 (wordOf i .b) r)))
 
 unfoldable pub getInstruction : List ℕ → Got Instruction
-getInstruction = u 1 and λ o. u 1 and λ s. u 4 and λ a. u 2 and λ b. got (instructionOf (word o s a b))
+getInstruction = do
+  opcode ← u 1
+  sub ← u 1
+  a ← u 4
+  b ← u 2
+  got (instructionOf (word opcode sub a b))
 
 -- 01, The program image: "A text has a 2-byte length."
 unfoldable pub putText : List ℕ → List ℕ → List ℕ
@@ -113,20 +127,30 @@ unfoldable pub putPost : Post → List ℕ → List ℕ
 putPost p r = be 4 (p .scale) (be 4 (p .offset) r)
 
 unfoldable pub getPost : List ℕ → Got Post
-getPost = u 4 and λ s. u 4 and λ o. got (record { scale = s; offset = o })
+getPost = do
+  scale ← u 4
+  offset ← u 4
+  got (record { scale = scale; offset = offset })
 
 -- 01, The program image: "names (hash 8, text)"
 unfoldable pub putName : Name → List ℕ → List ℕ
 putName n r = be 8 (n .hash) (putText (n .text) r)
 
 unfoldable pub getName : List ℕ → Got Name
-getName = u 8 and λ h. getText and λ t. got (record { hash = h; text = t })
+getName = do
+  hash ← u 8
+  text ← getText
+  got (record { hash = hash; text = text })
 
 unfoldable pub putMember : MemberEntry → List ℕ → List ℕ
 putMember m r = be 8 (m .hash) (putText (m .text) (putText (m .report) r))
 
 unfoldable pub getMember : List ℕ → Got MemberEntry
-getMember = u 8 and λ h. getText and λ t. getText and λ q. got (record { hash = h; text = t; report = q })
+getMember = do
+  hash ← u 8
+  text ← getText
+  report ← getText
+  got (record { hash = hash; text = text; report = report })
 
 -- 01, The program image: "stores (root 0 Var, 1 Temp, 2 Other; index 2, 0 for Other; path count 2; hashes)"
 unfoldable pub putRoot : StoreRoot → List ℕ → List ℕ
@@ -140,27 +164,41 @@ rootOf (suc zero) n = rootTemp n
 rootOf (suc (suc k)) n = rootOther
 
 unfoldable pub getRoot : List ℕ → Got StoreRoot
-getRoot = u 1 and λ k. u 2 and λ n. got (rootOf k n)
+getRoot = do
+  kind ← u 1
+  index ← u 2
+  got (rootOf kind index)
 
 unfoldable pub putStore : MemberStore → List ℕ → List ℕ
 putStore s r = putRoot (s .root) (list (be 8) 2 (s .path) r)
 
 unfoldable pub getStore : List ℕ → Got MemberStore
-getStore = getRoot and λ x. lists (u 8) 2 and λ p. got (record { root = x; path = p })
+getStore = do
+  root ← getRoot
+  path ← lists (u 8) 2
+  got (record { root = root; path = path })
 
 -- 01, The program image: "calls (index 2, impl_idx 1, argument count 2, starts 4 each)"
 unfoldable pub putCall : QueryCall → List ℕ → List ℕ
 putCall c r = be 2 (c .index) (be 1 (c .impl) (list (be 4) 2 (c .starts) r))
 
 unfoldable pub getCall : List ℕ → Got QueryCall
-getCall = u 2 and λ i. u 1 and λ m. lists (u 4) 2 and λ s. got (record { index = i; impl = m; starts = s })
+getCall = do
+  index ← u 2
+  impl ← u 1
+  starts ← lists (u 4) 2
+  got (record { index = index; impl = impl; starts = starts })
 
 -- 01, The program image: "Then stack, loops, handlers (2 each), flags (2), float_loop (1)."
 unfoldable pub putDepths : Counts → List ℕ → List ℕ
 putDepths d r = be 2 (d .operands) (be 2 (d .loops) (be 2 (d .handlers) r))
 
 unfoldable pub getDepths : List ℕ → Got Counts
-getDepths = u 2 and λ o. u 2 and λ l. u 2 and λ h. got (record { operands = o; loops = l; handlers = h })
+getDepths = do
+  operands ← u 2
+  loops ← u 2
+  handlers ← u 2
+  got (record { operands = operands; loops = loops; handlers = handlers })
 
 unfoldable pub putClosing : Program → List ℕ → List ℕ
 putClosing P r = putDepths (P .depths) (be 2 (P .flags) (be 1 (bit (P .floatLoop)) r))
@@ -173,11 +211,33 @@ putProgram P r =
     (list putCall 4 (P .calls) (putClosing P r)))))))))
 
 unfoldable pub getProgram : List ℕ → Got Program
-getProgram =
-    lists getInstruction 4 and λ c. lists (u 4) 4 and λ k. lists getPost 4 and λ p. lists (u 8) 4 and λ h.
-    lists getName 4 and λ n. lists (u 2) 4 and λ t. lists getMember 4 and λ m. lists getStore 4 and λ s.
-    lists getCall 4 and λ q. getDepths and λ d. u 2 and λ f. u 1 and λ l.
-    got (record { code = c; consts = k; posts = p; hashes = h; names = n; temps = t; members = m; stores = s; calls = q; depths = d; flags = f; floatLoop = isSet l })
+getProgram = do
+  code ← lists getInstruction 4
+  consts ← lists (u 4) 4
+  posts ← lists getPost 4
+  hashes ← lists (u 8) 4
+  names ← lists getName 4
+  temps ← lists (u 2) 4
+  members ← lists getMember 4
+  stores ← lists getStore 4
+  calls ← lists getCall 4
+  depths ← getDepths
+  flags ← u 2
+  loop ← u 1
+  got (record {
+    code = code;
+    consts = consts;
+    posts = posts;
+    hashes = hashes;
+    names = names;
+    temps = temps;
+    members = members;
+    stores = stores;
+    calls = calls;
+    depths = depths;
+    flags = flags;
+    floatLoop = isSet loop;
+  })
 
 -- 01, The program image: "Byte 0 is 1, then a 4-byte length of the rest."
 unfoldable pub image : Program → List ℕ

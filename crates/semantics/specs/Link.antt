@@ -1,4 +1,5 @@
--- From a lowered tree to its program (the main code, then the segments, every target moved by its segment's start), and from the bytes of a tree image to its refusal or its program image. Definitions only.
+-- From a lowered tree to its program (the main code, then the segments, every target moved by its segment's start),
+-- and from the bytes of a tree image to its refusal or its program image. Definitions only.
 use mathlib.Core.Bool.{false, cond}
 use mathlib.Core.List.{List, [], _∷_, _++_, map}
 use mathlib.Core.Option.{Option, some, none}
@@ -11,7 +12,8 @@ use Rattle.ast.specs.Tree.{Tree}
 use Rattle.ast.specs.Node.{parse}
 use Rattle.ast.specs.Questions.{questions}
 use Rattle.program.specs.Kinds.{inFloatLoop}
-use Rattle.program.specs.Instruction.{Instruction, plain, taking, reading, guard, push, loopEnd, halt, end, pushConst, jump, handlerPush, handlerPop, loopBegin, loopCheck, eachBegin, return, eachNext, call}
+use Rattle.program.specs.Instruction as I
+use Rattle.program.specs.Instruction.{Instruction}
 use Rattle.program.specs.Program.{MemberEntry, QueryCall, Program}
 use Rattle.program.specs.Image.{image}
 use Rattle.semantics.specs.Positions.{_⊕_, past}
@@ -22,30 +24,30 @@ use Rattle.semantics.specs.Pieces.{Lowered, put, _⨾_}
 use Rattle.semantics.specs.Lowering.{lower}
 
 unfoldable pub relocate : ℕ → Instruction → Instruction
-relocate b (plain i) = plain i
-relocate b (taking i) = taking i
-relocate b (reading i) = reading i
-relocate b (guard g t) = guard g (b ⊕ t)
-relocate b push = push
-relocate b loopEnd = loopEnd
-relocate b halt = halt
-relocate b end = end
-relocate b (pushConst c) = pushConst c
-relocate b (jump t) = jump (b ⊕ t)
-relocate b (handlerPush t) = handlerPush (b ⊕ t)
-relocate b (handlerPop t) = handlerPop (b ⊕ t)
-relocate b (loopBegin t) = loopBegin (b ⊕ t)
-relocate b (loopCheck t) = loopCheck (b ⊕ t)
-relocate b (eachBegin t) = eachBegin (b ⊕ t)
-relocate b (return p) = return p
-relocate b (eachNext i t) = eachNext i (b ⊕ t)
-relocate b (call k p) = call k p
+relocate b (I.plain i) = I.plain i
+relocate b (I.taking i) = I.taking i
+relocate b (I.reading i) = I.reading i
+relocate b (I.guard g t) = I.guard g (b ⊕ t)
+relocate b I.push = I.push
+relocate b I.loopEnd = I.loopEnd
+relocate b I.halt = I.halt
+relocate b I.end = I.end
+relocate b (I.pushConst c) = I.pushConst c
+relocate b (I.jump t) = I.jump (b ⊕ t)
+relocate b (I.handlerPush t) = I.handlerPush (b ⊕ t)
+relocate b (I.handlerPop t) = I.handlerPop (b ⊕ t)
+relocate b (I.loopBegin t) = I.loopBegin (b ⊕ t)
+relocate b (I.loopCheck t) = I.loopCheck (b ⊕ t)
+relocate b (I.eachBegin t) = I.eachBegin (b ⊕ t)
+relocate b (I.return p) = I.return p
+relocate b (I.eachNext i t) = I.eachNext i (b ⊕ t)
+relocate b (I.call k p) = I.call k p
 
 -- an item of the segment that starts at b; no Break or Continue waits any more when a segment is complete, its loop has aimed it
 unfoldable pub settle : ℕ → ℕ → ℕ → Item → Instruction
 settle b check-at cleanup-at (instr i) = relocate b i
-settle b check-at cleanup-at toCleanup = jump (b ⊕ cleanup-at)
-settle b check-at cleanup-at toCheck = jump (b ⊕ check-at)
+settle b check-at cleanup-at toCleanup = I.jump (b ⊕ cleanup-at)
+settle b check-at cleanup-at toCheck = I.jump (b ⊕ check-at)
 
 unfoldable pub place-segments : List (List Item) → ℕ → List Instruction
 place-segments [] b = []
@@ -64,11 +66,13 @@ memberEntry r = record { hash = r .own .hash; text = 46 ∷ r .own .text; report
 
 -- 01, Modules: "Stack over 16, loops over 4, handlers over 4 or temps over 8 clears FLOAT_ONLY and float_loop."
 unfoldable pub finalFlags : State → Flags
-finalFlags s = cond (inFloatLoop (s .deepest .operands) (s .deepest .loops) (s .deepest .handlers) (length (s .pools .temps))) (s .flags) (notFloatOnly (s .flags))
+finalFlags s = cond (inFloatLoop (s .deepest .operands) (s .deepest .loops) (s .deepest .handlers) (length (s .pools .temps)))
+    (s .flags)
+    (notFloatOnly (s .flags))
 
 -- the root as an expression, nothing open, and End
 unfoldable pub lowered : Settings → Tree → Lowered
-lowered S t = (lower S t .expr false ⨾ put end) nothing-open false 0 empty
+lowered S t = (lower S t .expr false ⨾ put I.end) nothing-open false 0 empty
 
 unfoldable pub link : Lowered → Program
 link x =

@@ -4,9 +4,13 @@ use mathlib.Core.List.{List, [], _∷_, tail}
 use mathlib.Core.Option.{Option, some, none}
 use Prim.Native.Nat.{ℕ, zero, suc, pred}
 use lib.ListN.{length}
-use Rattle.program.specs.Instruction.{Plain, const, hash, resource, this, negate, not, andLast, orLast, post, pointerLeave, storeVar, storeTemp, storeMember, cmpConst, eqConst, eqHash, addAcc, Taking, addLast, mul, div, cmp, eq, hostMath, Reading, loadVar, loadTemp, loadCtx, arrayElement, member, Guard, divGuard, andStep, orStep, pointerEnter, jumpIfFalsy, EachNext, eachNextVar, eachNextTemp, Instruction, plain, taking, reading, guard, push, loopEnd, halt, end, pushConst, jump, handlerPush, handlerPop, loopBegin, loopCheck, eachBegin, return, eachNext, call}
-use Rattle.program.specs.Program.{Counts, StoreRoot, rootVar, rootTemp, rootOther, Program, codeAt, constAt, postAt, hashAt, nameAt, slotAt, memberAt, storeAt, callAt, startAt}
-use Rattle.semantics.specs.Run.{Action, eConst, eHash, eResource, eThis, eNegate, eNot, eAndLast, eOrLast, ePost, ePointerLeave, eReturn, eAddLast, eMul, eDiv, eAndStep, eOrStep, ePointerEnter, eStoreVar, eStoreTemp, eLoadVar, eLoadTemp, eLoadCtx, eArrayElement, eMember, eCmp, eEq, eStoreMember, eCmpConst, eEqConst, eEqHash, eHostMath, eCall, ePush, eAddAcc, eJumpIfFalsy, eLoopBegin, eLoopCheck, eLoopEnd, eEachBegin, eHalt, eDivGuard, eEachNextVar, eEachNextTemp, Run, set-counts, note, note-argument, operand+, operands-, handler+, handler-, opens, closes, count, pick, draw, Ending, byEnd, byReturn, byHalt, byOut, Result, result, begin}
+use Rattle.program.specs.Instruction as I
+use Rattle.program.specs.Instruction.{Plain, Taking, Reading, Guard, EachNext, Instruction}
+use Rattle.program.specs.Program.{Counts, StoreRoot, rootVar, rootTemp, rootOther, Program, codeAt, constAt}
+use Rattle.program.specs.Program.{postAt, hashAt, nameAt, slotAt, memberAt, storeAt, callAt, startAt}
+use Rattle.semantics.specs.Run as E
+use Rattle.semantics.specs.Run.{Action, Run, set-counts, note, note-argument, operand+, operands-, handler+, handler-, opens}
+use Rattle.semantics.specs.Run.{closes, count, draw, Ending, byEnd, byReturn, byHalt, byOut, Result, result, begin}
 
 -- 01, Walk: "Names and members show their own hash, .. a store its root's kind, its root's hash unless Other, and its path"
 unfoldable pub rootAt : Program → StoreRoot → StoreRoot
@@ -15,68 +19,69 @@ rootAt P (rootTemp t) = rootTemp (nameAt P (slotAt P t))
 rootAt P rootOther = rootOther
 
 unfoldable pub plainAction : Program → Plain → Action
-plainAction P (const c) = eConst (constAt P c)
-plainAction P (hash h) = eHash (hashAt P h)
-plainAction P (resource h) = eResource (hashAt P h)
-plainAction P (this p) = eThis (postAt P p)
-plainAction P (negate p) = eNegate (postAt P p)
-plainAction P (not p) = eNot (postAt P p)
-plainAction P (andLast p) = eAndLast (postAt P p)
-plainAction P (orLast p) = eOrLast (postAt P p)
-plainAction P (post p) = ePost (postAt P p)
-plainAction P (pointerLeave p) = ePointerLeave (postAt P p)
-plainAction P (storeVar n p) = eStoreVar (nameAt P n) (postAt P p)
-plainAction P (storeTemp t p) = eStoreTemp (nameAt P (slotAt P t)) (postAt P p)
-plainAction P (storeMember s p) = eStoreMember (rootAt P (storeAt P s .root)) (storeAt P s .path) (postAt P p)
-plainAction P (cmpConst o c p) = eCmpConst o (constAt P c) (postAt P p)
-plainAction P (eqConst o c p) = eEqConst o (constAt P c) (postAt P p)
-plainAction P (eqHash o h p) = eEqHash o (hashAt P h) (postAt P p)
-plainAction P addAcc = eAddAcc
+plainAction P (I.const c) = E.eConst (constAt P c)
+plainAction P (I.hash h) = E.eHash (hashAt P h)
+plainAction P (I.resource h) = E.eResource (hashAt P h)
+plainAction P (I.this p) = E.eThis (postAt P p)
+plainAction P (I.negate p) = E.eNegate (postAt P p)
+plainAction P (I.not p) = E.eNot (postAt P p)
+plainAction P (I.andLast p) = E.eAndLast (postAt P p)
+plainAction P (I.orLast p) = E.eOrLast (postAt P p)
+plainAction P (I.post p) = E.ePost (postAt P p)
+plainAction P (I.pointerLeave p) = E.ePointerLeave (postAt P p)
+plainAction P (I.storeVar n p) = E.eStoreVar (nameAt P n) (postAt P p)
+plainAction P (I.storeTemp t p) = E.eStoreTemp (nameAt P (slotAt P t)) (postAt P p)
+plainAction P (I.storeMember s p) = E.eStoreMember (rootAt P (storeAt P s .root)) (storeAt P s .path) (postAt P p)
+plainAction P (I.cmpConst o c p) = E.eCmpConst o (constAt P c) (postAt P p)
+plainAction P (I.eqConst o c p) = E.eEqConst o (constAt P c) (postAt P p)
+plainAction P (I.eqHash o h p) = E.eEqHash o (hashAt P h) (postAt P p)
+plainAction P I.addAcc = E.eAddAcc
 
 unfoldable pub takingAction : Program → Taking → Action
-takingAction P (addLast p) = eAddLast (postAt P p)
-takingAction P (mul p) = eMul (postAt P p)
-takingAction P (div p) = eDiv (postAt P p)
-takingAction P (cmp o p) = eCmp o (postAt P p)
-takingAction P (eq o p) = eEq o (postAt P p)
-takingAction P (hostMath f n p) = eHostMath f n (postAt P p)
+takingAction P (I.addLast p) = E.eAddLast (postAt P p)
+takingAction P (I.mul p) = E.eMul (postAt P p)
+takingAction P (I.div p) = E.eDiv (postAt P p)
+takingAction P (I.cmp o p) = E.eCmp o (postAt P p)
+takingAction P (I.eq o p) = E.eEq o (postAt P p)
+takingAction P (I.hostMath f n p) = E.eHostMath f n (postAt P p)
 
 -- 01, Walk: "AddLast, Mul, Div, Cmp and Eq take one, HostMath argc less one"
 unfoldable pub taken : Taking → ℕ
-taken (addLast p) = 1
-taken (mul p) = 1
-taken (div p) = 1
-taken (cmp o p) = 1
-taken (eq o p) = 1
-taken (hostMath f n p) = pred n
+taken (I.addLast p) = 1
+taken (I.mul p) = 1
+taken (I.div p) = 1
+taken (I.cmp o p) = 1
+taken (I.eq o p) = 1
+taken (I.hostMath f n p) = pred n
 
 unfoldable pub readingAction : Program → Reading → Action
-readingAction P (loadVar n p) = eLoadVar (nameAt P n) (postAt P p)
-readingAction P (loadTemp t p) = eLoadTemp (nameAt P (slotAt P t)) (postAt P p)
-readingAction P (loadCtx n p) = eLoadCtx (nameAt P n) (postAt P p)
-readingAction P (arrayElement n p) = eArrayElement (nameAt P n) (postAt P p)
-readingAction P (member m p) = eMember (memberAt P m) (postAt P p)
+readingAction P (I.loadVar n p) = E.eLoadVar (nameAt P n) (postAt P p)
+readingAction P (I.loadTemp t p) = E.eLoadTemp (nameAt P (slotAt P t)) (postAt P p)
+readingAction P (I.loadCtx n p) = E.eLoadCtx (nameAt P n) (postAt P p)
+readingAction P (I.arrayElement n p) = E.eArrayElement (nameAt P n) (postAt P p)
+readingAction P (I.member m p) = E.eMember (memberAt P m) (postAt P p)
 
 unfoldable pub guardAction : Program → Guard → Action
-guardAction P (divGuard d) = eDivGuard d
-guardAction P (andStep p) = eAndStep (postAt P p)
-guardAction P (orStep p) = eOrStep (postAt P p)
-guardAction P (pointerEnter p) = ePointerEnter (postAt P p)
-guardAction P jumpIfFalsy = eJumpIfFalsy
+guardAction P (I.divGuard d) = E.eDivGuard d
+guardAction P (I.andStep p) = E.eAndStep (postAt P p)
+guardAction P (I.orStep p) = E.eOrStep (postAt P p)
+guardAction P (I.pointerEnter p) = E.ePointerEnter (postAt P p)
+guardAction P I.jumpIfFalsy = E.eJumpIfFalsy
 
 -- 01, Walk: "DivGuard going on .. add an operand"
 unfoldable pub guardUp : Guard → Counts → Counts
-guardUp (divGuard d) c = operand+ c
-guardUp (andStep p) c = c
-guardUp (orStep p) c = c
-guardUp (pointerEnter p) c = c
-guardUp jumpIfFalsy c = c
+guardUp (I.divGuard d) c = operand+ c
+guardUp (I.andStep p) c = c
+guardUp (I.orStep p) c = c
+guardUp (I.pointerEnter p) c = c
+guardUp I.jumpIfFalsy c = c
 
 unfoldable pub eachAction : Program → EachNext → Action
-eachAction P (eachNextVar n) = eEachNextVar (nameAt P n)
-eachAction P (eachNextTemp t) = eEachNextTemp (nameAt P (slotAt P t))
+eachAction P (I.eachNextVar n) = E.eEachNextVar (nameAt P n)
+eachAction P (I.eachNextTemp t) = E.eEachNextTemp (nameAt P (slotAt P t))
 
--- what is open in a segment: a loop (with LoopBegin's operand or not) and the counts just after its start, a handler, its target and the counts before its HandlerPush
+-- what is open in a segment: a loop (with LoopBegin's operand or not) and the counts just after its start,
+-- a handler, its target and the counts before its HandlerPush
 pub data Open : Type 0 where
   loop : Bool → Counts → Open
   handler : ℕ → Counts → Open
@@ -126,12 +131,14 @@ cut (handler t c ∷ es) = cut es
 unfoldable pub check : Action → ℕ → ℕ → Run → List Frame → List Open → Next
 check a yes-to no-to w fs [] = stop (result byHalt w)
 check a yes-to no-to w fs (handler u c ∷ es) = stop (result byHalt w)
-check a yes-to no-to w fs (loop k c ∷ es) = draw (note a (set-counts c w)) dry (λ w. go (machine yes-to w (loop k c ∷ es) fs)) (λ w. go (machine no-to w (loop k c ∷ es) fs))
+check a yes-to no-to w fs (loop k c ∷ es) = draw (note a (set-counts c w)) dry
+    (λ w. go (machine yes-to w (loop k c ∷ es) fs))
+    (λ w. go (machine no-to w (loop k c ∷ es) fs))
 
 unfoldable pub close : ℕ → Run → List Frame → List Open → Next
 close n w fs [] = stop (result byHalt w)
 close n w fs (handler u c ∷ es) = stop (result byHalt w)
-close n w fs (loop k c ∷ es) = go (machine n (set-counts (closes k c) (note eLoopEnd (set-counts c w))) es fs)
+close n w fs (loop k c ∷ es) = go (machine n (set-counts (closes k c) (note E.eLoopEnd (set-counts c w))) es fs)
 
 abbrev pub open-loop : Bool → ℕ → Run → List Open → List Frame → Next
 open-loop k n w es fs = go (machine n (count (opens k) w) (loop k (opens k (w .counts)) ∷ es) fs)
@@ -139,7 +146,8 @@ open-loop k n w es fs = go (machine n (count (opens k) w) (loop k (opens k (w .c
 -- 01, Walk: "Call logs, runs its arguments in order from the counts open there, .. and only then draws": call k with `todo` arguments left
 unfoldable pub enter : Program → ℕ → (todo : ℕ) → ℕ → ℕ → Run → List Open → List Frame → Next
 enter P k zero j n w es fs = perhaps n w es fs
-enter P k (suc m) j n w es fs = go (machine (startAt P k j) (note-argument j w) [] (record { back = n; callee = k; todo = m; number = suc j; counts = w .counts; control = es } ∷ fs))
+enter P k (suc m) j n w es fs = go (machine (startAt P k j) (note-argument j w) []
+    (record { back = n; callee = k; todo = m; number = suc j; counts = w .counts; control = es } ∷ fs))
 
 -- 01, Walk: "Return or End ends its segment and restores the counts there."
 unfoldable pub leave : Program → Ending → Run → List Frame → Next
@@ -148,24 +156,25 @@ leave P e w (f ∷ fs) = enter P (f .callee) (f .todo) (f .number) (f .back) (se
 
 -- one instruction at n; "Jump, HandlerPush, HandlerPop and End log nothing; PushConst logs and does Push, then logs and does Const"
 unfoldable pub execute : Program → Instruction → ℕ → Run → List Open → List Frame → Next
-execute P (plain i) n w es fs = go (machine (suc n) (note (plainAction P i) w) es fs)
-execute P (taking i) n w es fs = go (machine (suc n) (count (operands- (taken i)) (note (takingAction P i) w)) es fs)
-execute P (reading i) n w es fs = perhaps (suc n) (note (readingAction P i) w) es fs
-execute P (guard g t) n w es fs = draw (note (guardAction P g) w) dry (λ w. go (machine (suc n) (count (guardUp g) w) es fs)) (λ w. go (machine t w es fs))
-execute P push n w es fs = go (machine (suc n) (count operand+ (note ePush w)) es fs)
-execute P (pushConst c) n w es fs = go (machine (suc n) (note (eConst (constAt P c)) (count operand+ (note ePush w))) es fs)
-execute P (jump t) n w es fs = go (machine t w es fs)
-execute P (handlerPush t) n w es fs = go (machine (suc n) (count handler+ w) (handler t (w .counts) ∷ es) fs)
-execute P (handlerPop t) n w es fs = go (machine t (count handler- w) (tail es) fs)
-execute P (loopBegin t) n w es fs = draw (note eLoopBegin w) dry (λ w. open-loop true (suc n) w es fs) (λ w. go (machine t w es fs))
-execute P (eachBegin t) n w es fs = draw (note eEachBegin w) dry (λ w. open-loop false (suc n) w es fs) (λ w. go (machine t w es fs))
-execute P (loopCheck t) n w es fs = check eLoopCheck t (suc n) w fs (cut es)
-execute P (eachNext i t) n w es fs = check (eachAction P i) (suc n) t w fs (cut es)
-execute P loopEnd n w es fs = close (suc n) w fs (cut es)
-execute P (call k p) n w es fs = enter P k (length (callAt P k .starts)) 0 (suc n) (note (eCall (callAt P k .index) (callAt P k .impl) (length (callAt P k .starts)) (postAt P p)) w) es fs
-execute P (return p) n w es fs = leave P byReturn (note (eReturn (postAt P p)) w) fs
-execute P halt n w es fs = stop (result byHalt (note eHalt w))
-execute P end n w es fs = leave P byEnd w fs
+execute P (I.plain i) n w es fs = go (machine (suc n) (note (plainAction P i) w) es fs)
+execute P (I.taking i) n w es fs = go (machine (suc n) (count (operands- (taken i)) (note (takingAction P i) w)) es fs)
+execute P (I.reading i) n w es fs = perhaps (suc n) (note (readingAction P i) w) es fs
+execute P (I.guard g t) n w es fs = draw (note (guardAction P g) w) dry (λ w. go (machine (suc n) (count (guardUp g) w) es fs)) (λ w. go (machine t w es fs))
+execute P I.push n w es fs = go (machine (suc n) (count operand+ (note E.ePush w)) es fs)
+execute P (I.pushConst c) n w es fs = go (machine (suc n) (note (E.eConst (constAt P c)) (count operand+ (note E.ePush w))) es fs)
+execute P (I.jump t) n w es fs = go (machine t w es fs)
+execute P (I.handlerPush t) n w es fs = go (machine (suc n) (count handler+ w) (handler t (w .counts) ∷ es) fs)
+execute P (I.handlerPop t) n w es fs = go (machine t (count handler- w) (tail es) fs)
+execute P (I.loopBegin t) n w es fs = draw (note E.eLoopBegin w) dry (λ w. open-loop true (suc n) w es fs) (λ w. go (machine t w es fs))
+execute P (I.eachBegin t) n w es fs = draw (note E.eEachBegin w) dry (λ w. open-loop false (suc n) w es fs) (λ w. go (machine t w es fs))
+execute P (I.loopCheck t) n w es fs = check E.eLoopCheck t (suc n) w fs (cut es)
+execute P (I.eachNext i t) n w es fs = check (eachAction P i) (suc n) t w fs (cut es)
+execute P I.loopEnd n w es fs = close (suc n) w fs (cut es)
+execute P (I.call k p) n w es fs = enter P k (length (callAt P k .starts)) 0 (suc n)
+    (note (E.eCall (callAt P k .index) (callAt P k .impl) (length (callAt P k .starts)) (postAt P p)) w) es fs
+execute P (I.return p) n w es fs = leave P byReturn (note (E.eReturn (postAt P p)) w) fs
+execute P I.halt n w es fs = stop (result byHalt (note E.eHalt w))
+execute P I.end n w es fs = leave P byEnd w fs
 
 unfoldable pub step : Program → Machine → Next
 step P m = execute P (codeAt P (m .pc)) (m .pc) (m .run) (m .control) (m .frames)

@@ -29,6 +29,15 @@ module _ {X : Type 0} where
   unfoldable pub asQuery : Payload → X → (ℕ → ℕ → X) → X
   asQuery v d f = cases v d (λ x. d) (λ x. d) (λ x. d) (λ j n. d) f
 
+-- by the kind of a variable's name: 4 Entity, 5 Temp, any other payload
+pub record Kinds (X : Type 0) : Type 0 where
+  pub entity : Name → X
+  pub temp : Name → X
+  pub other : X
+
+abbrev pub byKind : {X : Type 0} → Payload → Kinds X → X
+byKind v k = asName 4 v (asName 5 v (k .other) (k .temp)) (k .entity)
+
 -- 01, Nine questions, 7: "a float then reads 0.0"
 unfoldable pub floatOf : Payload → ℕ
 floatOf v = cases v 0 (λ x. x) (λ x. 0) (λ x. 0) (λ j n. 0) (λ i m. 0)

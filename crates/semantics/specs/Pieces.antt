@@ -1,4 +1,5 @@
 -- Pieces of lowering and how they are put together: code, pools, jumps. Definitions only.
+use mathlib.Core.Path.{_≡_}
 use mathlib.Core.Bool.{Bool, true, false, cond}
 use mathlib.Core.List.{List, [], _∷_, _++_, map}
 use Prim.Native.Nat.{ℕ, zero, suc}
@@ -7,11 +8,13 @@ use native.Mathlib.Decide.{ℕ-discrete}
 use Rattle.numeric.specs.Post.{Post, isIdentity}
 use Rattle.ast.specs.Tree.{Name}
 use Rattle.program.specs.Kinds.{USES-TEMPS}
-use Rattle.program.specs.Instruction.{const, post, Guard, EachNext, Instruction, plain, guard, push, loopEnd, halt, pushConst, jump, loopBegin, loopCheck, eachBegin, eachNext}
+use Rattle.program.specs.Instruction.{const, post, Guard, EachNext, Instruction, plain, guard, push, loopEnd}
+use Rattle.program.specs.Instruction.{halt, pushConst, jump, loopBegin, loopCheck, eachBegin, eachNext}
 use Rattle.program.specs.Program.{Counts, MemberStore}
 use Rattle.semantics.specs.Positions.{past, slot, intern, pair-discrete}
 use Rattle.semantics.specs.Run.{operand+, opens}
-use Rattle.semantics.specs.State.{Item, instr, toCleanup, toCheck, MemberRead, Pools, set-consts, set-posts, set-hashes, set-names, set-temps, set-members, set-stores, Flags, sets, State, set-pools, set-flags, raise, fail}
+use Rattle.semantics.specs.State.{Item, instr, toCleanup, toCheck, MemberRead, Pools, set-consts, set-posts, set-hashes, set-names}
+use Rattle.semantics.specs.State.{set-temps, set-members, set-stores, Flags, sets, State, set-pools, set-flags, raise, fail}
 
 -- the code of a piece, and the state after it
 pub record Lowered : Type 0 where
@@ -66,20 +69,45 @@ flagged m f c b n s = f c b n (set-flags (m (s .flags)) s)
 abbrev pub itself : ℕ → ℕ
 itself n = n
 
+-- an interned pool: its entries in the state, their keys
+pub record Pool (A K : Type 0) : Type 1 where
+  pub get : Pools → List A
+  pub set : List A → Pools → Pools
+  pub key : A → K
+  pub dec : (a b : K) → Dec (a ≡ b)
+
+-- the entry of v's key, found or appended; f goes on with its index
+abbrev pub interned : {A K : Type 0} → Pool A K → A → (ℕ → Lowering) → Lowering
+interned pool v f c b n s =
+    f (slot (pool .key) (pool .dec) v 0 (pool .get (s .pools))) c b n
+    (set-pools (pool .set (intern (pool .key) (pool .dec) v (pool .get (s .pools))) (s .pools)) s)
+
+abbrev pub const-pool : Pool ℕ ℕ
+const-pool = record { get = λ p. p .consts; set = set-consts; key = itself; dec = ℕ-discrete }
+
+abbrev pub hash-pool : Pool ℕ ℕ
+hash-pool = record { get = λ p. p .hashes; set = set-hashes; key = itself; dec = ℕ-discrete }
+
+abbrev pub slot-pool : Pool ℕ ℕ
+slot-pool = record { get = λ p. p .temps; set = set-temps; key = itself; dec = ℕ-discrete }
+
 abbrev pub withConst : ℕ → (ℕ → Lowering) → Lowering
-withConst v f c b n s = f (slot itself ℕ-discrete v 0 (s .pools .consts)) c b n (set-pools (set-consts (intern itself ℕ-discrete v (s .pools .consts)) (s .pools)) s)
+withConst v f = interned const-pool v f
 
 abbrev pub withHash : ℕ → (ℕ → Lowering) → Lowering
-withHash v f c b n s = f (slot itself ℕ-discrete v 0 (s .pools .hashes)) c b n (set-pools (set-hashes (intern itself ℕ-discrete v (s .pools .hashes)) (s .pools)) s)
+withHash v f = interned hash-pool v f
 
 abbrev pub hashKey : Name → ℕ
 hashKey n = n .hash
 
+abbrev pub name-pool : Pool Name ℕ
+name-pool = record { get = λ p. p .names; set = set-names; key = hashKey; dec = ℕ-discrete }
+
 abbrev pub withName : Name → (ℕ → Lowering) → Lowering
-withName v f c b n s = f (slot hashKey ℕ-discrete v 0 (s .pools .names)) c b n (set-pools (set-names (intern hashKey ℕ-discrete v (s .pools .names)) (s .pools)) s)
+withName v f = interned name-pool v f
 
 abbrev pub withSlot : ℕ → (ℕ → Lowering) → Lowering
-withSlot v f c b n s = f (slot itself ℕ-discrete v 0 (s .pools .temps)) c b n (set-pools (set-temps (intern itself ℕ-discrete v (s .pools .temps)) (s .pools)) s)
+withSlot v f = interned slot-pool v f
 
 -- a temp: its name first, then its slot; USES_TEMPS
 abbrev pub withTemp : Name → (ℕ → Lowering) → Lowering
@@ -88,8 +116,11 @@ withTemp v f = flagged (sets USES-TEMPS) (withName v λ k. withSlot k f)
 abbrev pub readKey : MemberRead → ℕ × ℕ
 readKey r = (r .own .hash, r .last .hash)
 
+abbrev pub member-pool : Pool MemberRead (ℕ × ℕ)
+member-pool = record { get = λ p. p .members; set = set-members; key = readKey; dec = pair-discrete }
+
 abbrev pub withMember : MemberRead → (ℕ → Lowering) → Lowering
-withMember v f c b n s = f (slot readKey pair-discrete v 0 (s .pools .members)) c b n (set-pools (set-members (intern readKey pair-discrete v (s .pools .members)) (s .pools)) s)
+withMember v f = interned member-pool v f
 
 abbrev pub withStore : MemberStore → (ℕ → Lowering) → Lowering
 withStore v f c b n s = f (length (s .pools .stores)) c b n (set-pools (set-stores (s .pools .stores ++ (v ∷ [])) (s .pools)) s)
@@ -97,10 +128,13 @@ withStore v f c b n s = f (length (s .pools .stores)) c b n (set-pools (set-stor
 abbrev pub postKey : Post → ℕ × ℕ
 postKey p = (p .scale, p .offset)
 
+abbrev pub post-pool : Pool Post (ℕ × ℕ)
+post-pool = record { get = λ p. p .posts; set = set-posts; key = postKey; dec = pair-discrete }
+
 -- the identity is slot 0, and is not looked up
 unfoldable pub post-if : Bool → Post → (ℕ → Lowering) → Lowering
-post-if true v f c b n s = f 0 c b n s
-post-if false v f c b n s = f (suc (slot postKey pair-discrete v 0 (s .pools .posts))) c b n (set-pools (set-posts (intern postKey pair-discrete v (s .pools .posts)) (s .pools)) s)
+post-if true v f = f 0
+post-if false v f = interned post-pool v λ k. f (suc k)
 
 abbrev pub withPost : Post → (ℕ → Lowering) → Lowering
 withPost v = post-if (isIdentity v) v
@@ -144,7 +178,8 @@ abbrev pub eached : EachNext → Lowering → Lowering
 eached i f c = flush λ n s.
     let x = f (opens false c) false (suc (suc n)) (raise (opens false c) s) in
     let back = past (x .code) (suc (suc n)) in
-    emit (instr (eachBegin (suc (suc back))) ∷ instr (eachNext i (suc back)) ∷ (map (aim (suc n) (suc back)) (x .code) ++ (instr (jump (suc n)) ∷ instr loopEnd ∷ []))) (x .state)
+    let body = map (aim (suc n) (suc back)) (x .code) ++ (instr (jump (suc n)) ∷ instr loopEnd ∷ []) in
+    emit (instr (eachBegin (suc (suc back))) ∷ instr (eachNext i (suc back)) ∷ body) (x .state)
 
 -- Break or Continue; 01, Walk: "With none open they log Halt."
 unfoldable pub jumps : Item → Bool → Lowering

@@ -28,7 +28,8 @@ rules =
     ∷ plain array ∷ plain usesArrays ∷ plain usesArrays ∷ plain usesResources ∷ plain usesResources ∷ plain usesResources
     ∷ plain float ∷ plain string ∷ plain resource ∷ plain resource ∷ plain resource ∷ plain this
     ∷ entity ∷ plain load ∷ plain load ∷ member ∷ plain query
-    ∷ plain (compare 0) ∷ plain (compare 1) ∷ plain (compare 2) ∷ plain (compare 3) ∷ plain (equal 0) ∷ plain (equal 1) ∷ plain (logic true) ∷ plain (logic false)
+    ∷ plain (compare 0) ∷ plain (compare 1) ∷ plain (compare 2) ∷ plain (compare 3)
+    ∷ plain (equal 0) ∷ plain (equal 1) ∷ plain (logic true) ∷ plain (logic false)
     ∷ plain coalesce ∷ plain conditional ∷ plain statements ∷ plain loop ∷ plain forEach ∷ plain break ∷ plain continue
     ∷ plain assign ∷ pointer ∷ plain bracket ∷ plain bracket
     ∷ plain (unary true) ∷ plain (unary false) ∷ plain add ∷ plain mul ∷ plain div ∷ plain (hostMath false) ∷ plain (hostMath true)

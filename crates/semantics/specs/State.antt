@@ -11,7 +11,8 @@ use Rattle.program.specs.Instruction.{Instruction}
 use Rattle.program.specs.Program.{Counts, MemberStore}
 use Rattle.semantics.specs.Run.{nothing-open}
 
--- an instruction of a segment that is being lowered, its targets counted from the segment's start; a Break waits for its loop's LoopEnd, a Continue for its LoopCheck or EachNext
+-- an instruction of a segment that is being lowered, its targets counted from the segment's start;
+-- a Break waits for its loop's LoopEnd, a Continue for its LoopCheck or EachNext
 pub data Item : Type 0 where
   instr : Instruction → Item
   toCleanup toCheck : Item

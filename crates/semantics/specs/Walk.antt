@@ -9,8 +9,11 @@ use Rattle.ast.specs.Tree.{Payload, Tree, node, Forest, nil, cons}
 use Rattle.program.specs.Program.{Counts, StoreRoot, rootVar, rootTemp, rootOther}
 use Rattle.semantics.specs.Rule as R
 use Rattle.semantics.specs.Rule.{Rule, ruleAt, Settings}
-use Rattle.semantics.specs.Payloads.{asName, asHash, asMath, asQuery, floatOf, constOf, stringOf, resourceOf, one, two, three, some, just, Path, path}
-use Rattle.semantics.specs.Run.{Action, eConst, eHash, eResource, eThis, eNegate, eNot, eAndLast, eOrLast, ePost, ePointerLeave, eReturn, eAddLast, eMul, eDiv, eAndStep, eOrStep, ePointerEnter, eStoreVar, eStoreTemp, eLoadVar, eLoadTemp, eLoadCtx, eArrayElement, eMember, eCmp, eEq, eStoreMember, eCmpConst, eEqConst, eEqHash, eHostMath, eCall, ePush, eAddAcc, eJumpIfFalsy, eLoopBegin, eLoopCheck, eLoopEnd, eEachBegin, eHalt, eDivGuard, eEachNextVar, eEachNextTemp, Run, set-counts, note, note-argument, operand+, operands-, handler+, handler-, same, opens, closes, count, pick, draw, byEnd, byReturn, byHalt, byOut, Result, result, begin}
+use Rattle.semantics.specs.Payloads.{asName, asHash, asMath, asQuery, floatOf, constOf, stringOf, resourceOf}
+use Rattle.semantics.specs.Payloads.{one, two, three, some, just, Path, path, Kinds, byKind}
+use Rattle.semantics.specs.Run as E
+use Rattle.semantics.specs.Run.{Action, Run, set-counts, note, note-argument, operand+, operands-, handler+, handler-}
+use Rattle.semantics.specs.Run.{same, opens, closes, count, draw, byEnd, byReturn, byHalt, byOut, Result, result, begin}
 
 -- how a piece of the walk ends: it goes on, or a value is missing, Break, Continue, Return, Halt, or no outcome is left
 pub data Completion : Type 0 where
@@ -46,6 +49,10 @@ after v (out w) = out w
 abbrev pub _then_ : Walking → Walking → Walking
 _then_ u v w = after v (u w)
 
+-- what `do` is read by
+abbrev _>>_ : Walking → Walking → Walking
+_>>_ u v = u then v
+
 abbrev pub pass : Walking
 pass w = normal w
 
@@ -57,13 +64,13 @@ abbrev pub takes : ℕ → Action → Walking
 takes k a w = normal (count (operands- k) (note a w))
 
 abbrev pub pushes : Walking
-pushes w = normal (count operand+ (note ePush w))
+pushes w = normal (count operand+ (note E.ePush w))
 
 abbrev pub halts : Walking
-halts w = halted (note eHalt w)
+halts w = halted (note E.eHalt w)
 
 abbrev pub returns : Post → Walking
-returns p w = returned (note (eReturn p) w)
+returns p w = returned (note (E.eReturn p) w)
 
 -- 01, Walk: "A missing value breaks off the first child of the innermost `??` that holds it there in the same segment ..; where no such `??` is, the walk goes on"
 unfoldable pub misses : Bool → Walking
@@ -81,7 +88,7 @@ guarded a up u w = draw (note a w) out (λ w. u (count up w)) normal
 
 -- 01, Walk: "a conditional then takes its other branch"
 abbrev pub branch : Walking → Walking → Walking
-branch u v w = draw (note eJumpIfFalsy w) out u v
+branch u v w = draw (note E.eJumpIfFalsy w) out u v
 
 -- the first child of a `??` with its handler open; 01, Walk: "and that `??` visits its second child", from the counts before
 unfoldable pub otherwise : Counts → Walking → Completion → Completion
@@ -98,9 +105,10 @@ coalesce u v w = otherwise (w .counts) v (u (count handler+ w))
 
 -- 01, Walk: "Before they log, LoopCheck, EachNext and LoopEnd cut back to just after the loop's start", the counts c
 abbrev pub ends : Bool → Counts → Walking
-ends k c w = normal (set-counts (closes k c) (note eLoopEnd (set-counts c w)))
+ends k c w = normal (set-counts (closes k c) (note E.eLoopEnd (set-counts c w)))
 
--- what follows a body; 01, Walk: "Break leaves the innermost loop open in its segment, with LoopEnd, and Continue goes on with that loop's LoopCheck or EachNext"
+-- what follows a body;
+-- 01, Walk: "Break leaves the innermost loop open in its segment, with LoopEnd, and Continue goes on with that loop's LoopCheck or EachNext"
 unfoldable pub round : Bool → Counts → Walking → Completion → Completion
 round k c next (normal w) = next w
 round k c next (missing w) = missing w
@@ -111,7 +119,7 @@ round k c next (halted w) = halted w
 round k c next (out w) = out w
 
 abbrev pub checks : Counts → Walking → Walking
-checks c more w = draw (note eLoopCheck (set-counts c w)) out more (ends true c)
+checks c more w = draw (note E.eLoopCheck (set-counts c w)) out more (ends true c)
 
 -- the rounds of a Loop, and of a ForEach; at most n more are answered by yes, so n is the number of outcomes left
 unfoldable pub rounds : Counts → Walking → ℕ → Walking
@@ -127,10 +135,10 @@ abbrev pub begins : Action → Bool → (Counts → ℕ → Walking) → Walking
 begins a k inner w = draw (note a w) out (λ w. inner (opens k (w .counts)) (length (w .outcomes)) (count (opens k) w)) normal
 
 abbrev pub looped : Walking → Walking
-looped body = begins eLoopBegin true (λ c. rounds c body)
+looped body = begins E.eLoopBegin true (λ c. rounds c body)
 
 abbrev pub eached : Action → Walking → Walking
-eached a body = begins eEachBegin false (λ c. nexts a c body)
+eached a body = begins E.eEachBegin false (λ c. nexts a c body)
 
 -- what a tree is as an expression, as a statement of a list, and as the base of a member path
 pub record Walkings : Type 0 where
@@ -158,34 +166,54 @@ unfoldable pub shown : Post → Post
 shown p = cond (isIdentity p) identity p
 
 abbrev pub posted : Post → Walking
-posted p = cond (isIdentity p) pass (logs (ePost p))
+posted p = cond (isIdentity p) pass (logs (E.ePost p))
 
 -- 01, Walk: "With none open they log Halt."
 unfoldable pub jumps : Walking → Bool → Walking
 jumps to open-here = cond open-here to halts
 
 unfoldable pub statements : ℕ → List Walkings → Scope → Walking
-statements o [] e = logs (eConst o)
-statements o (a ∷ xs) e = a .statement e then statements o xs e
+statements o [] e = logs (E.eConst o)
+statements o (a ∷ xs) e = do
+  a .statement e
+  statements o xs e
 
 unfoldable pub junction : Action → Action → Walkings → List Walkings → Scope → Walking
-junction step last a [] e = a .expr e then logs last
-junction step last a (b ∷ xs) e = a .expr e then guarded step same (junction step last b xs e)
+junction step last a [] e = do
+  a .expr e
+  logs last
+junction step last a (b ∷ xs) e = do
+  a .expr e
+  guarded step same (junction step last b xs e)
 
 unfoldable pub addition : Post → Walkings → List Walkings → Scope → Walking
-addition p a [] e = a .expr e then takes 1 (eAddLast p)
-addition p a (b ∷ xs) e = a .expr e then logs eAddAcc then addition p b xs e
+addition p a [] e = do
+  a .expr e
+  takes 1 (E.eAddLast p)
+addition p a (b ∷ xs) e = do
+  a .expr e
+  logs E.eAddAcc
+  addition p b xs e
 
 unfoldable pub hosted : ℕ → Action → Walkings → List Walkings → Scope → Walking
-hosted k h a [] e = a .expr e then takes k h
-hosted k h a (b ∷ xs) e = a .expr e then pushes then hosted k h b xs e
+hosted k h a [] e = do
+  a .expr e
+  takes k h
+hosted k h a (b ∷ xs) e = do
+  a .expr e
+  pushes
+  hosted k h b xs e
 
 -- 01, Walk: "a store its root's kind, its root's hash unless Other, and its path"
 unfoldable pub rootShown : Payload → StoreRoot
-rootShown v = asName 4 v (asName 5 v rootOther (λ n. rootTemp (n .hash))) (λ n. rootVar (n .hash))
+rootShown v = byKind v (record { entity = λ n. rootVar (n .hash); temp = λ n. rootTemp (n .hash); other = rootOther })
 
 unfoldable pub stores : Payload → Path → Post → Walking
-stores v m p = asName 4 v (asName 5 v (logs (eStoreMember (rootShown (m .root)) (m .hashes) p)) (λ n. logs (eStoreTemp (n .hash) p))) (λ n. logs (eStoreVar (n .hash) p))
+stores v m p = byKind v (record {
+  entity = λ n. logs (E.eStoreVar (n .hash) p);
+  temp = λ n. logs (E.eStoreTemp (n .hash) p);
+  other = logs (E.eStoreMember (rootShown (m .root)) (m .hashes) p);
+})
 
 -- 01, Walk: "It visits the children a rule lowers (not an assignment's target or a ForEach variable)"
 unfoldable pub target : Forest → Post → Walking
@@ -193,62 +221,128 @@ target nil p = pass
 target (cons (node op q v us) ts) p = stores v (path (node op q v us)) p
 
 unfoldable pub eachOf : Payload → (Action → Walking) → Walking
-eachOf v f = asName 4 v (asName 5 v pass (λ n. f (eEachNextTemp (n .hash)))) (λ n. f (eEachNextVar (n .hash)))
+eachOf v f = byKind v (record { entity = λ n. f (E.eEachNextVar (n .hash)); temp = λ n. f (E.eEachNextTemp (n .hash)); other = pass })
 
 unfoldable pub variable : Forest → (Action → Walking) → Walking
 variable nil f = pass
 variable (cons (node op q v us) ts) f = eachOf v f
 
 unfoldable pub loaded : Payload → Post → Scope → Walking
-loaded v p e = asName 4 v (asName 5 v (asName 3 v pass (λ n. loads e (eLoadCtx (n .hash) p))) (λ n. loads e (eLoadTemp (n .hash) p))) (λ n. loads e (eLoadVar (n .hash) p))
+loaded v p e = byKind v (record {
+  entity = λ n. loads e (E.eLoadVar (n .hash) p);
+  temp = λ n. loads e (E.eLoadTemp (n .hash) p);
+  other = asName 3 v pass (λ n. loads e (E.eLoadCtx (n .hash) p));
+})
 
 module _ (S : Settings) where
   -- 01, Walk: "left to right, but Div's second first, and logs each node's events where its rule puts them"
   unfoldable pub walkPlain : R.Plain → Post → Payload → Forest → List Walkings → Scope → Walking
-  walkPlain R.array p v ts xs e = just xs pass λ a. asName 7 v pass λ n. a .expr e then loads e (eArrayElement (n .hash) (shown p))
+  walkPlain R.array p v ts xs e = just xs pass λ a. asName 7 v pass λ n. do
+    a .expr e
+    loads e (E.eArrayElement (n .hash) (shown p))
   walkPlain R.usesArrays p v ts xs e = pass
   walkPlain R.usesResources p v ts xs e = pass
-  walkPlain R.float p v ts xs e = logs (eConst (floatOf v))
-  walkPlain R.string p v ts xs e = logs (eHash (stringOf v))
-  walkPlain R.resource p v ts xs e = logs (eResource (resourceOf v))
-  walkPlain R.this p v ts xs e = logs (eThis (shown p))
+  walkPlain R.float p v ts xs e = logs (E.eConst (floatOf v))
+  walkPlain R.string p v ts xs e = logs (E.eHash (stringOf v))
+  walkPlain R.resource p v ts xs e = logs (E.eResource (resourceOf v))
+  walkPlain R.this p v ts xs e = logs (E.eThis (shown p))
   walkPlain R.load p v ts xs e = loaded v (shown p) e
-  walkPlain R.query p v ts xs e = asQuery v pass λ i m w. arguments 0 xs (perhaps e) (note (eCall i m (length xs) (shown p)) w)
-  walkPlain (R.compare o) p v ts xs e = some xs pass λ a ys. some ys (a .expr e then logs (eCmpConst o (constOf v) (shown p))) λ b zs. a .expr e then pushes then b .expr e then takes 1 (eCmp o (shown p))
-  walkPlain (R.equal o) p v ts xs e = some xs pass λ a ys. some ys (a .expr e then asHash v (logs (eEqConst o (floatOf v) (shown p))) (λ h. logs (eEqHash o h (shown p)))) λ b zs. a .expr e then pushes then b .expr e then takes 1 (eEq o (shown p))
-  walkPlain (R.logic j) p v ts xs e = some xs pass λ a ys. junction (cond j (eAndStep (shown p)) (eOrStep (shown p))) (cond j (eAndLast (shown p)) (eOrLast (shown p))) a ys e
-  walkPlain R.coalesce p v ts xs e = two xs pass λ a b. coalesce (a .expr (in-handler e)) (b .expr e) then posted p
-  walkPlain R.conditional p v ts xs e = some xs pass λ a ys. some ys pass λ b zs. a .expr e then branch (b .expr e) (one zs (logs (eConst 0)) λ c. c .expr e) then posted p
+  walkPlain R.query p v ts xs e = asQuery v pass λ i m w. arguments 0 xs (perhaps e) (note (E.eCall i m (length xs) (shown p)) w)
+  walkPlain (R.compare o) p v ts xs e = some xs pass λ a ys. some ys
+      (do
+        a .expr e
+        logs (E.eCmpConst o (constOf v) (shown p)))
+      λ b zs. do
+        a .expr e
+        pushes
+        b .expr e
+        takes 1 (E.eCmp o (shown p))
+  walkPlain (R.equal o) p v ts xs e = some xs pass λ a ys. some ys
+      (do
+        a .expr e
+        asHash v (logs (E.eEqConst o (floatOf v) (shown p))) (λ h. logs (E.eEqHash o h (shown p))))
+      λ b zs. do
+        a .expr e
+        pushes
+        b .expr e
+        takes 1 (E.eEq o (shown p))
+  walkPlain (R.logic j) p v ts xs e = some xs pass λ a ys.
+      junction (cond j (E.eAndStep (shown p)) (E.eOrStep (shown p))) (cond j (E.eAndLast (shown p)) (E.eOrLast (shown p))) a ys e
+  walkPlain R.coalesce p v ts xs e = two xs pass λ a b. do
+    coalesce (a .expr (in-handler e)) (b .expr e)
+    posted p
+  walkPlain R.conditional p v ts xs e = some xs pass λ a ys. some ys pass λ b zs. do
+    a .expr e
+    branch (b .expr e) (one zs (logs (E.eConst 0)) λ c. c .expr e)
+    posted p
   walkPlain R.statements p v ts xs e = statements (p .offset) xs e
-  walkPlain R.loop p v ts xs e = two xs pass λ a b. a .expr e then looped (b .expr (in-loop e)) then logs (eConst (fold p 0))
-  walkPlain R.forEach p v ts xs e = three xs pass λ a b c. variable ts λ x. b .expr e then eached x (c .expr (in-loop e)) then logs (eConst (fold p 0))
+  walkPlain R.loop p v ts xs e = two xs pass λ a b. do
+    a .expr e
+    looped (b .expr (in-loop e))
+    logs (E.eConst (fold p 0))
+  walkPlain R.forEach p v ts xs e = three xs pass λ a b c. variable ts λ x. do
+    b .expr e
+    eached x (c .expr (in-loop e))
+    logs (E.eConst (fold p 0))
   walkPlain R.break p v ts xs e = jumps broke (e .loop)
   walkPlain R.continue p v ts xs e = jumps again (e .loop)
-  walkPlain R.assign p v ts xs e = some xs pass λ a ys. one ys (logs (eConst (constOf v))) (λ b. b .expr e) then target ts (shown p)
+  walkPlain R.assign p v ts xs e = some xs pass λ a ys. do
+    one ys (logs (E.eConst (constOf v))) (λ b. b .expr e)
+    target ts (shown p)
   walkPlain R.bracket p v ts xs e = one xs pass λ a. a .expr e
-  walkPlain (R.unary u) p v ts xs e = one xs pass λ a. a .expr e then logs (cond u (eNegate (shown p)) (eNot (shown p)))
-  walkPlain R.add p v ts xs e = some xs pass λ a ys. some ys (a .expr e then posted p) λ b zs. a .expr e then pushes then addition (shown p) b zs e
-  walkPlain R.mul p v ts xs e = two xs pass λ a b. a .expr e then pushes then b .expr e then takes 1 (eMul (shown p))
-  walkPlain R.div p v ts xs e = two xs pass λ a b. b .expr e then guarded (eDivGuard (S .absolute)) operand+ (a .expr e then takes 1 (eDiv (shown p)))
-  walkPlain (R.hostMath u) p v ts xs e = asMath v pass λ f. some xs pass λ a ys. cond (leb (length xs) 255) (hosted (length ys) (eHostMath f (length xs) (shown p)) a ys e) pass
-  walkPlain R.generic p v ts xs e = logs (eConst (fold p (constOf v)))
+  walkPlain (R.unary u) p v ts xs e = one xs pass λ a. do
+    a .expr e
+    logs (cond u (E.eNegate (shown p)) (E.eNot (shown p)))
+  walkPlain R.add p v ts xs e = some xs pass λ a ys. some ys
+      (do
+        a .expr e
+        posted p)
+      λ b zs. do
+        a .expr e
+        pushes
+        addition (shown p) b zs e
+  walkPlain R.mul p v ts xs e = two xs pass λ a b. do
+    a .expr e
+    pushes
+    b .expr e
+    takes 1 (E.eMul (shown p))
+  walkPlain R.div p v ts xs e = two xs pass λ a b. do
+    b .expr e
+    guarded (E.eDivGuard (S .absolute)) operand+ do
+      a .expr e
+      takes 1 (E.eDiv (shown p))
+  walkPlain (R.hostMath u) p v ts xs e = asMath v pass λ f. some xs pass λ a ys.
+      cond (leb (length xs) 255) (hosted (length ys) (E.eHostMath f (length xs) (shown p)) a ys e) pass
+  walkPlain R.generic p v ts xs e = logs (E.eConst (fold p (constOf v)))
   walkPlain R.refused p v ts xs e = pass
 
   -- a member read: its base, then itself
   unfoldable pub chained : Post → Payload → List Walkings → Scope → Walking
-  chained p v xs e = one xs pass λ a. a .base e then asName 6 v pass (λ n. loads e (eMember (n .hash) (shown p)))
+  chained p v xs e = one xs pass λ a. do
+    a .base e
+    asName 6 v pass (λ n. loads e (E.eMember (n .hash) (shown p)))
 
   unfoldable pub pointed : Post → List Walkings → Scope → Walking
-  pointed p xs e = two xs pass λ a b. a .expr e then guarded (ePointerEnter (shown p)) same (b .expr e then logs (ePointerLeave (shown p)))
+  pointed p xs e = two xs pass λ a b. do
+    a .expr e
+    guarded (E.ePointerEnter (shown p)) same do
+      b .expr e
+      logs (E.ePointerLeave (shown p))
 
   unfoldable pub returning : Post → List Walkings → Scope → Walking
-  returning p xs e = one xs (logs (eConst 0)) (λ a. a .expr e) then returns (shown p)
+  returning p xs e = do
+    one xs (logs (E.eConst 0)) (λ a. a .expr e)
+    returns (shown p)
 
   abbrev pub alike : (Scope → Walking) → Walkings
   alike u = record { expr = u; statement = u; base = u }
 
   unfoldable pub walkRule : Rule → Post → Payload → Forest → List Walkings → Walkings
-  walkRule R.return p v ts xs = record { expr = λ e. logs (eConst (fold p (constOf v))); statement = returning p xs; base = λ e. logs (eConst (fold p (constOf v))) }
+  walkRule R.return p v ts xs = record {
+    expr = λ e. logs (E.eConst (fold p (constOf v)));
+    statement = returning p xs;
+    base = λ e. logs (E.eConst (fold p (constOf v)));
+  }
   walkRule R.member p v ts xs = alike (chained p v xs)
   walkRule R.entity p v ts xs = alike (loaded v (shown p))
   walkRule R.pointer p v ts xs = alike (pointed p xs)

@@ -17,6 +17,10 @@ got a r = record { val = a; rest = r }
 unfoldable pub _and_ : {A B : Type 0} → (List ℕ → Got A) → (A → List ℕ → Got B) → List ℕ → Got B
 _and_ f g bytes = g (f bytes .val) (f bytes .rest)
 
+-- what `do` is read by
+abbrev pub _>>=_ : {A B : Type 0} → (List ℕ → Got A) → (A → List ℕ → Got B) → List ℕ → Got B
+_>>=_ f g = f and g
+
 -- the number a, and k more bytes after its digits, the highest first; where the bytes end the number ends
 unfoldable pub number : ℕ → ℕ → List ℕ → Got ℕ
 number zero a r = got a r
