@@ -10,6 +10,7 @@ use lib.ListN.{length, drop}
 use lib.Seq.{drop-length}
 use borrow.Author.Tests.{leb-true, eqb-true}
 use Rattle.wire.specs.Bytes.{Bytes, be8, be32, be}
+use Rattle.ast.specs.Header.{LEVELS}
 use Rattle.ast.specs.Rules.{known}
 use Rattle.ast.specs.Tree.{Payload, Tree, Forest, nil, cons}
 use Rattle.ast.specs.Node.{lenAt, opAt, scaleAt, offsetAt, kindAt, payloadAt, sizeAt, countAt, firstAt, nextAt, trees, treeAt, parse}
@@ -166,4 +167,4 @@ module _ (s : List ℕ) (small : Bytes s) where
   -- an accepted image is the image of the tree that is read from it, and every field of that tree fits
   pub accepted : questions s ≡ 0 → (image (be8 s 0 5) (be8 s 0 6) (parse s) ≡ s) × Fit (parse s)
   unfolding questions shallow parse
-  accepted h = let q = asked (whole s) (formed s) (shallow s) h in read-back 64 (q .0) (q .2)
+  accepted h = let q = asked (whole s) (formed s) (shallow s) h in read-back LEVELS (q .0) (q .2)

@@ -11,6 +11,7 @@ use lib.ListN.{length}
 use borrow.Author.Tests.{le-leb, lt-leb, eq-eqb}
 use Rattle.wire.specs.Bytes.{be8, be32, be}
 use Rattle.numeric.specs.Post.{Post}
+use Rattle.ast.specs.Header.{LONGEST, LEVELS, ALL-LEVELS}
 use Rattle.ast.specs.Tree.{Payload, Tree, node, Forest, nil, cons}
 use Rattle.ast.specs.Node.{firstAt, nextAt, trees, treeAt, parse}
 use Rattle.ast.specs.Questions.{fits, row, filled, rooted, whole, formed, shallow, questions}
@@ -135,24 +136,24 @@ module _ (arrays divisor : ℕ) (t : Tree) (f : Fit t) where
       (row-end (filled l s) s (7 + (4 + size t)) (length s) (sym long))
       ∙ also-true (leb (height t) l)
 
-  -- a tree of 64 levels at most is read again from its image
-  pub parsed : height t ≤ 64 → parse (image arrays divisor t) ≡ t
+  -- a tree of no more levels than an accepted one is read again from its image
+  pub parsed : height t ≤ LEVELS → parse (image arrays divisor t) ≡ t
   unfolding parse
-  parsed h = tree-back t 64 [] f h stands
+  parsed h = tree-back t LEVELS [] f h stands
 
-  module _ (a : arrays ≤ 1) (d : divisor ≤ 1) (short : 7 + (4 + size t) ≤ 6144) where
+  module _ (a : arrays ≤ 1) (d : divisor ≤ 1) (short : 7 + (4 + size t) ≤ LONGEST) where
     whole-is : whole s ≡ true
     unfolding whole
     whole-is =
-        rw (le-leb 5 (length s) (omega (arith, long)), le-leb (length s) 6144 (omega (arith, long)), eq-eqb (5 + be32 s 0 1) (length s) (omega (arith, length-is, long)))
+        rw (le-leb 5 (length s) (omega (arith, long)), le-leb (length s) LONGEST (omega (arith, long)), eq-eqb (5 + be32 s 0 1) (length s) (omega (arith, length-is, long)))
 
     formed-is : formed s ≡ true
     unfolding formed
     formed-is =
         rw (setting-is .0, setting-is .1, le-leb arrays 1 a, le-leb divisor 1 d)
-        (rooted-is 383 ∙ le-leb (height t) 383 (omega (arith, tall t)))
+        (rooted-is ALL-LEVELS ∙ le-leb (height t) ALL-LEVELS (omega (arith, tall t)))
 
     -- questions 2 to 4 ask nothing of an image that was written but its height
-    pub answered : questions (image arrays divisor t) ≡ cond (leb (height t) 64) 0 4
+    pub answered : questions (image arrays divisor t) ≡ cond (leb (height t) LEVELS) 0 4
     unfolding questions shallow
-    answered = rw (whole-is, formed-is, rooted-is 64)
+    answered = rw (whole-is, formed-is, rooted-is LEVELS)

@@ -6,6 +6,7 @@ use mathlib.Core.List.{List, [], _∷_, _++_}
 use lib.ListN.{length}
 use Rattle.wire.specs.Bytes.{be}
 use Rattle.numeric.specs.Post.{Post}
+use Rattle.ast.specs.Header.{VERSION}
 use Rattle.ast.specs.Rules.{known}
 use Rattle.ast.specs.Tree.{Payload, pNone, pFloat, pHash, pMath, pName, pQuery, Tree, node, Forest, nil, cons}
 
@@ -55,7 +56,7 @@ abbrev mutual
 
 -- 01, The tree image: "Byte 0 is 1. A 4-byte length of all that follows. Arrays byte. Divisor byte. Then the root node."
 abbrev pub image : ℕ → ℕ → Tree → List ℕ
-image arrays divisor t = 1 ∷ be 4 (2 + (4 + size t)) (arrays ∷ divisor ∷ put t [])
+image arrays divisor t = VERSION ∷ be 4 (2 + (4 + size t)) (arrays ∷ divisor ∷ put t [])
 
 abbrev mutual
   -- 01, Nine questions, 4: "(the root is level 1)": the lowest node's level

@@ -1,3 +1,4 @@
+pub mod Header
 pub mod Rules
 pub mod Tree
 pub mod Node

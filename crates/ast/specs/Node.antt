@@ -3,6 +3,7 @@ use Prim.Native.Nat.{ℕ, zero, suc, _+_}
 use mathlib.Core.List.{List, [], _∷_}
 use lib.ListN.{getD, take, drop}
 use Rattle.wire.specs.Bytes.{be8, be16, be32, be64, reach}
+use Rattle.ast.specs.Header.{ROOT, LEVELS}
 use Rattle.ast.specs.Tree.{Name, Payload, pNone, pFloat, pHash, pMath, pName, pQuery, Tree, node, Forest, nil, cons}
 
 -- 01, The tree image: "A node: 4-byte length of its rest"
@@ -73,6 +74,6 @@ treeAt (suc levels) s p =
     node (opAt s p) (record { scale = scaleAt s p; offset = offsetAt s p }) (payloadAt s p)
     (trees (treeAt levels s) s (countAt s p) (firstAt s p))
 
--- 01, The tree image: "Then the root node", behind 7 bytes; no accepted image has more than 64 levels
+-- 01, The tree image: "Then the root node", to the levels of an accepted image
 unfoldable pub parse : List ℕ → Tree
-parse s = treeAt 64 s 7
+parse s = treeAt LEVELS s ROOT

@@ -4,7 +4,7 @@ use mathlib.Core.List.{List}
 use mathlib.Core.Bool.{Bool, true, false, _&&_, cond}
 use lib.Dec.{leb, eqb}
 use lib.ListN.{length}
-use Rattle.wire.specs.Bytes.{be8, be32}
+use Rattle.ast.specs.Header.{VERSION, versionOf, restOf, arraysOf, divisorOf, ROOT, SHORTEST, LONGEST, LEVELS, ALL-LEVELS}
 use Rattle.ast.specs.Rules.{known}
 use Rattle.ast.specs.Node.{lenAt, opAt, kindAt, sizeAt, countAt, firstAt, nextAt}
 
@@ -30,19 +30,21 @@ filled (suc levels) s p = row (filled levels s) s (countAt s p) (firstAt s p) (n
 
 -- 01, Nine questions, 3: "nothing left over": the root fills what follows the settings, to so many levels
 unfoldable pub rooted : ℕ → List ℕ → Bool
-rooted levels s = row (filled levels s) s 1 7 (length s)
+rooted levels s = row (filled levels s) s 1 ROOT (length s)
 
 -- 01, Nine questions, 2: "Has the image 5 to 6,144 bytes, first byte 1, and a true length?"
 unfoldable pub whole : List ℕ → Bool
-whole s = leb 5 (length s) && (leb (length s) 6144 && (eqb (be8 s 0 0) 1 && eqb (5 + be32 s 0 1) (length s)))
+whole s =
+    leb SHORTEST (length s)
+    && (leb (length s) LONGEST && (eqb (versionOf s) VERSION && eqb (SHORTEST + restOf s) (length s)))
 
--- 01, Nine questions, 3: "Are both setting bytes 0 or 1, every code and kind known, every node length exact, nothing left over?" A node takes 16 bytes or more, so 6,144 bytes hold no more than 383 levels.
+-- 01, Nine questions, 3: "Are both setting bytes 0 or 1, every code and kind known, every node length exact, nothing left over?"
 unfoldable pub formed : List ℕ → Bool
-formed s = leb (be8 s 0 5) 1 && (leb (be8 s 0 6) 1 && rooted 383 s)
+formed s = leb (arraysOf s) 1 && (leb (divisorOf s) 1 && rooted ALL-LEVELS s)
 
 -- 01, Nine questions, 4: "Is every node at level 64 or less (the root is level 1)?"
 unfoldable pub shallow : List ℕ → Bool
-shallow s = rooted 64 s
+shallow s = rooted LEVELS s
 
 -- 01, Nine questions, "in this order": 2, 3 or 4 for the first that is answered by no, else 0
 unfoldable pub questions : List ℕ → ℕ

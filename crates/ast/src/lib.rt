@@ -1,4 +1,5 @@
 // The tree image: the rule of each operator code.
+pub mod header;
 pub mod operators;
 mod rules;
 

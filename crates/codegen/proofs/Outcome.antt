@@ -15,7 +15,8 @@ use Rattle.program.specs.Image.{putProgram}
 use Rattle.program.proofs.Length.{image-length}
 use Rattle.semantics.specs.State.{first}
 use Rattle.semantics.specs.Answer as S
-use Rattle.semantics.specs.Link.{settings, lowered, program, refusalOf, programImage}
+use Rattle.ast.specs.Header.{settings}
+use Rattle.semantics.specs.Link.{lowered, program, refusalOf, programImage}
 use Rattle.semantics.specs.Demand3.{Agrees}
 use Rattle.semantics.proofs.Demand3.{demand3}
 use Rattle.semantics.proofs.Fitting.{program-fits, counted}

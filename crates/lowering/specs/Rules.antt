@@ -3,8 +3,8 @@ use mathlib.Core.Bool.{Bool, true, false, cond, _&&_, _||_}
 use mathlib.Core.List.{List, [], _∷_}
 use Prim.Native.Nat.{ℕ, zero, suc, _-_, min, _+_}
 use lib.Dec.{eqb, leb, ltb}
-use Rattle.wire.specs.Bytes.{be8}
 use Rattle.numeric.specs.Post.{fold}
+use Rattle.ast.specs.Header.{arraysOf, divisorOf, ROOT, LEVELS}
 use Rattle.ast.specs.Rules.{ruleOf}
 use Rattle.ast.specs.Node.{opAt, offsetAt, countAt, firstAt, nextAt}
 use Rattle.program.specs.Image.{bit}
@@ -157,7 +157,7 @@ module _ (t : List ℕ) where
 module _ (t : List ℕ) (E : ℕ → Bool → Step) (C : ℕ → NameRef → Bool → Step) (R : ℕ → Bool → Step) where
   unfoldable pub arrayElement : ℕ → Bool → Step
   arrayElement p l h =
-      cond (eqb (be8 t 0 5) 1)
+      cond (eqb (arraysOf t) 1)
       (cond (eqb (countAt t p) 1) (asName 7 (payload t p) (failed 7 h) (λ n. arrayPut t p n (E (firstAt t p) l (still notFloatOnly h)))) (failed 7 h))
       (failed 5 h)
 
@@ -302,7 +302,7 @@ module _ (t : List ℕ) (E : ℕ → Bool → Step) (C : ℕ → NameRef → Boo
   unfoldable pub div : ℕ → Bool → Step
   div p l h =
       let a = firstAt t p in
-      let e = guard 20 (bit (eqb (be8 t 0 6) 1)) 0 (E (nextAt t a) l h) in
+      let e = guard 20 (bit (eqb (divisorOf t) 1)) 0 (E (nextAt t a) l h) in
       cond (ltb (countAt t p) 2) (failed 7 h)
       (land (e .0 .index) (still (popped 1) (putPost t p 21 0 0 (E a l (still operandEntered (e .0 .state, e .1))))))
 
@@ -361,4 +361,4 @@ start = record { top = 0; base = 0; finished = 0; waiting = false; consts = 0; p
 
 -- the root, and End; a Break or Continue that no loop has aimed leads to the start
 unfoldable pub lowered : List ℕ → List ℕ → Held
-lowered t words = let g = instr 48 0 0 0 (expr t 64 7 false (start, words)) in (g .0, aimed (g .0) 0 0 0 (g .1))
+lowered t words = let g = instr 48 0 0 0 (expr t LEVELS ROOT false (start, words)) in (g .0, aimed (g .0) 0 0 0 (g .1))

@@ -10,6 +10,7 @@ mod regions;
 mod steps;
 mod values;
 
+use ast::header;
 use ast::operators;
 use builder::State;
 use builder::refusals;
@@ -43,21 +44,11 @@ ghost use Rattle.program.specs.Image.{bit};
 ghost use Rattle.builder.specs.Steps.{Held};
 ghost use Rattle.lowering.specs.Rules as R;
 
-// The levels of an accepted tree.
-const LEVELS: u16 = 64;
-
-// Where the two setting bytes stand, and where the root node begins.
-const ARRAYS: u32 = 5;
-
-const DIVISOR: u32 = 6;
-
-const ROOT: usize = 7;
-
 // The tree of an image as the main code, its End, and all that it needs in the workspace.
 pub fn lower(tree: &[u8], ws: &mut [u32]) -> State
     ensures { λ r. ⌜ _≡_ {A = Held} (r, now (ws .exit)) (R.lowered (now (tree .entry)) (now (ws .entry))) ⌝ }
 {
-    let s = expr(tree, ROOT, ws, start(), false, LEVELS);
+    let s = expr(tree, header::ROOT, ws, start(), false, header::LEVELS);
     let e = instr(ws, s, opcodes::END, 0, 0, 0);
     segments::aim_from(ws, e, 0, 0, 0);
     e
@@ -200,7 +191,7 @@ fn expr(tree: &[u8], at: usize, ws: &mut [u32], st: State, looping: bool, levels
 fn element(tree: &[u8], at: usize, ws: &mut [u32], st: State, looping: bool, levels: u16) -> State
     ensures { λ r. ⌜ _≡_ {A = Held} (r, now (ws .exit)) (R.under (now (tree .entry)) levels (R.arrayElement (now (tree .entry))) at looping (st, now (ws .entry))) ⌝ }
 {
-    if wire::get_u8(tree, 0, ARRAYS) != 1 {
+    if wire::get_u8(tree, 0, header::ARRAYS) != 1 {
         return builder::failed(ws, st, refusals::USES_ARRAYS);
     }
     if tree::count_at(tree, at) != 1 {
@@ -541,7 +532,7 @@ fn mul(tree: &[u8], at: usize, ws: &mut [u32], st: State, looping: bool, levels:
 fn divisor(tree: &[u8]) -> u8
     ensures { λ r. ⌜ r ≡ bit (eqb (be8 (now (tree .entry)) 0 6) 1) ⌝ }
 {
-    if wire::get_u8(tree, 0, DIVISOR) == 1 {
+    if wire::get_u8(tree, 0, header::DIVISOR) == 1 {
         return subs::ABSOLUTE;
     }
     subs::SIGNED

@@ -7,7 +7,7 @@ use native.Mathlib.Omega.{arith}
 use native.Mathlib.Decide.{decLe}
 use lib.Dec.{leb}
 use borrow.Author.Tests.{le-leb, lt-leb}
-use Rattle.wire.specs.Bytes.{be8}
+use Rattle.ast.specs.Header.{arraysOf, divisorOf, ALL-LEVELS}
 use Rattle.ast.specs.Rules.{known}
 use Rattle.ast.specs.Node.{lenAt, opAt, kindAt, sizeAt}
 use Rattle.ast.specs.Questions.{fits, whole, formed, shallow, rooted, questions}
@@ -36,15 +36,15 @@ module _ (s : List ℕ) (p e : ℕ) where
   ending k h l = rw (k, le-leb _ _ h, le-leb _ _ l)
 
 module _ (s : List ℕ) where
-  pub settings : be8 s 0 5 ≤ 1 → be8 s 0 6 ≤ 1 → rooted 383 s ≡ formed s
+  pub settings : arraysOf s ≤ 1 → divisorOf s ≤ 1 → rooted ALL-LEVELS s ≡ formed s
   unfolding formed
   settings h k = rw (le-leb _ _ h, le-leb _ _ k)
 
-  pub bad-arrays : 1 < be8 s 0 5 → false ≡ formed s
+  pub bad-arrays : 1 < arraysOf s → false ≡ formed s
   unfolding formed
   bad-arrays h = rw (lt-leb _ _ h)
 
-  pub bad-divisor : be8 s 0 5 ≤ 1 → 1 < be8 s 0 6 → false ≡ formed s
+  pub bad-divisor : arraysOf s ≤ 1 → 1 < divisorOf s → false ≡ formed s
   unfolding formed
   bad-divisor h k = rw (le-leb _ _ h, lt-leb _ _ k)
 

@@ -1,4 +1,5 @@
 // Questions 2 to 4 on a tree image.
+use ast::header;
 ghost use mathlib.Core.Path.{_≡_};
 ghost use Rattle.ast.specs.Node.{sizeAt};
 ghost use Rattle.ast.specs.Questions.{fits, row, filled, whole, questions};
@@ -55,10 +56,10 @@ fn row_at(s: &[u8], levels: u16, n: u16, p: usize, end: usize) -> bool
 fn whole_at(s: &[u8]) -> bool
     ensures { λ r. ⌜ r ≡ whole (now (s .entry)) ⌝ }
 {
-    if 5 <= s.len() {
-        if s.len() <= 6144 {
-            if wire::get_u8(s, 0, 0) == 1 {
-                return 5 + (wire::get_u32(s, 0, 1) as usize) == s.len();
+    if header::SHORTEST <= s.len() {
+        if s.len() <= header::LONGEST {
+            if wire::get_u8(s, 0, 0) == header::VERSION {
+                return header::SHORTEST + (wire::get_u32(s, 0, header::REST) as usize) == s.len();
             }
             return false;
         }
@@ -72,17 +73,17 @@ pub fn check_image(tree: &[u8]) -> u8
     ensures { λ r. ⌜ r ≡ questions (now (tree .entry)) ⌝ }
 {
     if whole_at(tree) {
-        if 1 < wire::get_u8(tree, 0, 5) {
+        if 1 < wire::get_u8(tree, 0, header::ARRAYS) {
             return 3;
         }
-        if 1 < wire::get_u8(tree, 0, 6) {
+        if 1 < wire::get_u8(tree, 0, header::DIVISOR) {
             return 3;
         }
-        if row_at(tree, 64, 1, 7, tree.len()) {
+        if row_at(tree, header::LEVELS, 1, header::ROOT, tree.len()) {
             return 0;
         }
-        // No image has more than 383 levels, since a node takes 16 bytes or more: this pass tells 3 from 4.
-        if row_at(tree, 383, 1, 7, tree.len()) {
+        // This pass tells 3 from 4.
+        if row_at(tree, header::ALL_LEVELS, 1, header::ROOT, tree.len()) {
             return 4;
         }
         return 3;

@@ -8,6 +8,7 @@ use lib.Dec.{eqb, ltb}
 use lib.ListN.{length}
 use borrow.Author.Tests.{eq-eqb, ne-eqb}
 use Rattle.numeric.specs.Post.{Post, fold}
+use Rattle.ast.specs.Header.{LEVELS}
 use Rattle.ast.specs.Tree as T
 use Rattle.ast.specs.Node.{payloadAt, opAt, offsetAt, countAt, firstAt, nextAt, trees, treeAt}
 use Rattle.program.specs.Kinds.{HAS-LOOPS, HAS-ASSIGNMENT}
@@ -165,7 +166,7 @@ module _ (tree : List ℕ) (E : ℕ → Bool → Step) (C : ℕ → NameRef → 
     unless-does zero r′ e {f} {F} d = subst (λ (b : Bool). Does tree f c (λ h. cond b (F h) (W.failed r′ h))) (sym (eq-eqb r′ 0 (sym e))) d
     unless-does (suc r) r′ e {f} {F} d = subst (λ (b : Bool). Does tree (failing (suc r)) c (λ h. cond b (F h) (W.failed r′ h))) (sym (ne-eqb r′ 0 (λ q. omega arith))) (subst (λ (v : ℕ). Does tree (failing (suc r)) c (W.failed v)) e (failing-does (suc r)))
 
-    pub assign-rule : (n : ℕ) → n ≤ 64 → (1 ≤ countAt tree p → Sound n tree (firstAt tree p)) → length tree ≤ 6144
+    pub assign-rule : (n : ℕ) → n ≤ LEVELS → (1 ≤ countAt tree p → Sound n tree (firstAt tree p)) → length tree ≤ 6144
         → Does tree (P.some xs (failing 7) λ a ys. D.target (trees (treeAt n tree) tree (countAt tree p) (firstAt tree p)) (P.one ys (constant (P.constOf (payloadAt tree p))) λ b. b .expr l) (L.postBits tree p)) c (R.assignment tree E C Z n p l)
     unfolding R.assignment
     assign-rule n le sound short = some-rel tree E C Z c (failing 7) (failing-does 7) (λ a ys. D.target (trees (treeAt n tree) tree (countAt tree p) (firstAt tree p)) (P.one ys (constant (P.constOf (payloadAt tree p))) λ b. b .expr l) (L.postBits tree p)) xs (countAt tree p) (firstAt tree p) k

@@ -14,10 +14,10 @@ use Rattle.ast.specs.Node.{opAt, payloadAt, countAt, firstAt, nextAt, trees, tr
 use Rattle.program.specs.Program.{Counts, Program}
 use Rattle.semantics.specs.Run.{Result, byEnd, nothing-open}
 use Rattle.semantics.specs.Rule as U
-use Rattle.semantics.specs.Rule.{Rule, Settings, rules, ruleAt}
+use Rattle.semantics.specs.Rule.{Rule, rules, ruleAt}
 use Rattle.semantics.specs.State.{toCleanup, toCheck, CallInfo, State}
 use Rattle.semantics.specs.Lowering.{Lowerings, arguments, lowerPlain, lowerRule, lower, lowers}
-use Rattle.semantics.specs.Link.{settings}
+use Rattle.ast.specs.Header.{Settings, settings, LEVELS}
 use Rattle.semantics.proofs.SimulatedCalls.{args-grow}
 use Rattle.semantics.proofs.Agreement.{trees-s}
 use Rattle.payload.specs.declared.NameRef.{NameRef}
@@ -57,7 +57,7 @@ still-pending S ts c j s h =
 
 -- ---- every rule
 
-module _ (tree : List ℕ) (short : length tree ≤ 6144) (n : ℕ) (le : n ≤ 64) (E : ℕ → Bool → Step) (C : ℕ → NameRef → Bool → Step) (Z : ℕ → Bool → Step) (p : ℕ) (sound : NodeSound tree p) (first : 1 ≤ countAt tree p → Sound n tree (firstAt tree p))
+module _ (tree : List ℕ) (short : length tree ≤ 6144) (n : ℕ) (le : n ≤ LEVELS) (E : ℕ → Bool → Step) (C : ℕ → NameRef → Bool → Step) (Z : ℕ → Bool → Step) (p : ℕ) (sound : NodeSound tree p) (first : 1 ≤ countAt tree p → Sound n tree (firstAt tree p))
     (xs : List Lowerings) (k : Children tree E C Z xs (countAt tree p) (firstAt tree p)) (pends : (c : Counts) (j : ℕ) (s : State) → Pending j (s .pools .calls) → Pending j (arguments xs c s .state .pools .calls)) where
   abbrev rule-of : ℕ → Lowerings
   rule-of i = lowerRule (settings tree) (getD rules i (U.plain U.refused)) (L.postBits tree p) (payloadAt tree p) (trees (treeAt n tree) tree (countAt tree p) (firstAt tree p)) xs
@@ -325,7 +325,7 @@ module _ (tree : List ℕ) (short : length tree ≤ 6144) where
   row-first S zero q l s = absurd (omega arith)
   row-first S (suc m) q l s = s .0
 
-  pub child : (n : ℕ) → n ≤ 64 → (q : ℕ) → Sound n tree q → Child tree (R.expr tree n) (R.chain tree n) (R.returned tree n) (lower (settings tree) (treeAt n tree q)) q
+  pub child : (n : ℕ) → n ≤ LEVELS → (q : ℕ) → Sound n tree q → Child tree (R.expr tree n) (R.chain tree n) (R.returned tree n) (lower (settings tree) (treeAt n tree q)) q
   unfolding lower treeAt ruleAt R.expr R.chain R.returned R.statement
   child zero le q s = absurd s
   child (suc n) le q s =

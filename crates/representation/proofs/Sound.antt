@@ -10,6 +10,7 @@ use lib.ListN.{length, getD}
 use borrow.Author.Tests.{leb-true, eq-eqb, ne-eqb}
 use Rattle.wire.specs.Bytes.{be8}
 use Rattle.ast.specs.Tree as T
+use Rattle.ast.specs.Header.{ROOT, LEVELS}
 use Rattle.ast.specs.Rules.{known}
 use Rattle.ast.specs.Node.{lenAt, opAt, kindAt, payloadAt, sizeAt, countAt, firstAt, nextAt}
 use Rattle.ast.specs.Questions.{fits, row, filled, rooted, whole, formed, shallow, questions}
@@ -108,9 +109,9 @@ asked true true false h = absurd (omega arith)
 asked true false c h = absurd (omega arith)
 asked false b c h = absurd (omega arith)
 
-pub sound : (tree : List ℕ) → questions tree ≡ 0 → Sound 64 tree 7
+pub sound : (tree : List ℕ) → questions tree ≡ 0 → Sound LEVELS tree ROOT
 unfolding questions shallow
-sound tree h = rooted-sound 64 tree (asked (whole tree) (formed tree) (rooted 64 tree) h .2)
+sound tree h = rooted-sound LEVELS tree (asked (whole tree) (formed tree) (rooted LEVELS tree) h .2)
 
 pub not-larger : (tree : List ℕ) → questions tree ≡ 0 → length tree ≤ 6144
 unfolding questions whole

@@ -11,6 +11,7 @@ use lib.ListN.{length, getD, length-append}
 use lib.Seq.{sets}
 use borrow.Author.Tests.{ne-eqb, lt-ltb}
 use Rattle.ast.specs.Tree as T
+use Rattle.ast.specs.Header.{LEVELS}
 use Rattle.ast.specs.Rules.{ruleOf}
 use Rattle.ast.specs.Node.{opAt, payloadAt, countAt, firstAt, trees, treeAt}
 use Rattle.program.specs.Kinds.{USES-MEMBERS}
@@ -88,7 +89,7 @@ root-path : (tree : List ℕ) (n p : ℕ) → NodeSound tree p → PathIs tree n
 unfolding allAdded
 root-path tree n p s = record { fine-is = refl; root-is = λ x. refl; root-sound = λ x. s; count-is = λ x. refl; short = λ x. omega arith; adds = λ x h. refl }
 
-longer-path : (tree : List ℕ) (n x : ℕ) (m : P.Path) (e : PathEnd) (G : Step) → n ≤ 64 → PathIs tree n m e G → PathIs tree (suc n) (P.longer x m) (R.longer tree e) (λ h. pathAdded x (G h))
+longer-path : (tree : List ℕ) (n x : ℕ) (m : P.Path) (e : PathEnd) (G : Step) → n ≤ LEVELS → PathIs tree n m e G → PathIs tree (suc n) (P.longer x m) (R.longer tree e) (λ h. pathAdded x (G h))
 longer-path tree n x m e G l i = record {
   fine-is = i .fine-is;
   root-is = i .root-is;
@@ -98,7 +99,7 @@ longer-path tree n x m e G l i = record {
   adds = λ f h. ap (pathAdded x) (i .adds f h) ∙ sym (added-last (m .hashes) x h);
 }
 
-module _ (tree : List ℕ) (n : ℕ) (short : n ≤ 64) where
+module _ (tree : List ℕ) (n : ℕ) (short : n ≤ LEVELS) where
   -- a link, by how many children it has; its first child's path is known
   link-children : (c q x : ℕ) (G : Step) → (1 ≤ c → PathIs tree n (P.path (treeAt n tree q)) (R.pathEnd tree n q) G)
       → PathIs tree (suc n) (P.longer x (P.paths (trees (treeAt n tree) tree c q))) (cond (eqb c 0) R.noPath (R.longer tree (R.pathEnd tree n q))) (λ h. pathAdded x (G h))
@@ -136,7 +137,7 @@ module _ (tree : List ℕ) (n : ℕ) (short : n ≤ 64) where
       i (root-path tree (suc n) p s) (root-path tree (suc n) p s) (root-path tree (suc n) p s)
       (λ k r a b c. subst (λ (z : Bool). PathIs tree (suc n) (P.rootPath (payloadAt tree p)) (cond z e (record { fine = true; root = p; count = 0 })) (λ h. cond z (G h) h)) (sym (ne-eqb k 16 a)) (root-path tree (suc n) p s)) k
 
-pub path-is : (tree : List ℕ) (n p : ℕ) → n ≤ 64 → Sound n tree p → PathIs tree n (P.path (treeAt n tree p)) (R.pathEnd tree n p) (R.pathHashes tree n p)
+pub path-is : (tree : List ℕ) (n p : ℕ) → n ≤ LEVELS → Sound n tree p → PathIs tree n (P.path (treeAt n tree p)) (R.pathEnd tree n p) (R.pathHashes tree n p)
 unfolding P.path treeAt ruleAt R.pathEnd R.pathHashes
 path-is tree zero p l s = absurd s
 path-is tree (suc n) p l s =
@@ -394,7 +395,7 @@ second : (a b : Bool) → (a && b) ≡ true → b ≡ true
 second true b h = h
 second false b h = absurd (false≢true h)
 
-module _ (tree : List ℕ) (c : Counts) (n p : ℕ) (few : n ≤ 64) (sound : Sound n tree p) (small : length tree ≤ 6144) where
+module _ (tree : List ℕ) (c : Counts) (n p : ℕ) (few : n ≤ LEVELS) (sound : Sound n tree p) (small : length tree ≤ 6144) where
   abbrev path : P.Path
   path = P.path (treeAt n tree p)
 
@@ -416,5 +417,5 @@ module _ (tree : List ℕ) (c : Counts) (n p : ℕ) (few : n ≤ 64) (sound : So
   stored-to a = post-does (postBits tree a) (λ q. as-name 4 p (node-sound n tree p sound) small (λ x. withName x λ k. put (I.plain (I.storeVar k q))) (store-temp q) (λ r t. name-does r t (λ i. instr-does (I.plain (I.storeVar i q)) refl)))
 
 -- n are the target's levels; the post is the one of the node at a
-pub store-does : {tree : List ℕ} {c : Counts} (n p a : ℕ) → n ≤ 64 → Sound n tree p → length tree ≤ 6144 → Does tree (D.stores (ruleAt (opAt tree p)) (payloadAt tree p) (P.path (treeAt n tree p)) (postBits tree a)) c (R.store tree n p a)
+pub store-does : {tree : List ℕ} {c : Counts} (n p a : ℕ) → n ≤ LEVELS → Sound n tree p → length tree ≤ 6144 → Does tree (D.stores (ruleAt (opAt tree p)) (payloadAt tree p) (P.path (treeAt n tree p)) (postBits tree a)) c (R.store tree n p a)
 store-does {tree} {c} n p a few sound small = stored-to tree c n p few sound small a

@@ -26,7 +26,8 @@ use Rattle.semantics.specs.State as S
 use Rattle.semantics.specs.State.{Item, CallInfo, MemberRead, State, empty}
 use Rattle.semantics.specs.Pieces.{Lowered, aim, put, flush, _⨾_}
 use Rattle.semantics.specs.Lowering.{lower}
-use Rattle.semantics.specs.Link.{relocate, settle, place-segments, offsetsOf, place-call, memberEntry, finalFlags, lowered, link, program, settings}
+use Rattle.semantics.specs.Link.{relocate, settle, place-segments, offsetsOf, place-call, memberEntry, finalFlags, lowered, link, program}
+use Rattle.ast.specs.Header.{settings, ROOT, LEVELS}
 use Rattle.semantics.specs.Regions.{argumentStarts}
 use Rattle.semantics.proofs.Regions.{regions}
 use Rattle.semantics.proofs.Fitting.{program-fits}
@@ -334,9 +335,9 @@ module _ (tree words : List ℕ) (small : Bytes tree) (passed : questions tree �
       let fh = f .handlers in
       record { code = omega arith; consts = r .consts; posts = omega arith; hashes = r .hashes; names = r .names; temps = r .temps; members = omega arith; stores = r .stores; paths = r .paths; calls = omega arith; arguments = omega arith; operands = omega arith; loops = omega arith; handlers = omega arith }
 
-  whole-does : Does tree (lower (settings tree) (parse tree) .expr false ⨾ put I.end) nothing-open (λ h. L.instr 48 0 0 0 (R.expr tree 64 7 false h))
+  whole-does : Does tree (lower (settings tree) (parse tree) .expr false ⨾ put I.end) nothing-open (λ h. L.instr 48 0 0 0 (R.expr tree LEVELS ROOT false h))
   unfolding parse
-  whole-does = thens (child tree (not-larger tree passed) 64 (omega arith) 7 (sound tree passed) .expr-is false nothing-open) (instr-does I.end end-word)
+  whole-does = thens (child tree (not-larger tree passed) LEVELS (omega arith) ROOT (sound tree passed) .expr-is false nothing-open) (instr-does I.end end-word)
 
   abbrev settled : Abs
   settled = mk [] (map (aim 0 0) (x .code)) false [] (x .state)
@@ -344,7 +345,7 @@ module _ (tree words : List ℕ) (small : Bytes tree) (passed : questions tree �
   pub content : Content tree nothing-open (R.lowered tree words) settled
   unfolding lowered R.lowered
   content =
-      let g = L.instr 48 0 0 0 (R.expr tree 64 7 false (R.start, words)) in
+      let g = L.instr 48 0 0 0 (R.expr tree LEVELS ROOT false (R.start, words)) in
       let r = whole-does .keep nothing-lowered (R.start, words) fits-main (begins tree words enough) in
       aim-at [] [] (x .code) false [] (x .state) g 0 0 0 refl fits-main r
 

@@ -17,7 +17,8 @@ use Rattle.semantics.specs.Lowering.{Lowerings, memberRead, withRoot, me
 use Rattle.semantics.specs.Machine.{rootAt, plainAction, takingAction, taken, readingAction, guardAction, guardUp, eachAction}
 use Rattle.semantics.specs.Payloads.{asHash, floatOf, constOf, some, Path, path}
 use Rattle.semantics.specs.Pieces.{Lowering, put, failing, _⨾_, withName, withTemp, withPost, postInstruction}
-use Rattle.semantics.specs.Rule.{Rule, ruleAt, Settings}
+use Rattle.ast.specs.Header.{Settings}
+use Rattle.semantics.specs.Rule.{Rule, ruleAt}
 use Rattle.semantics.specs.Run.{Action, eConst, eHash, eResource, eThis, eNegate, eNot, eAndLast, eOrLast, ePointerLeave, eAddLast, eMul, eDiv, eAndStep, eOrStep, ePointerEnter, eStoreVar, eStoreTemp, eLoadVar, eLoadTemp, eLoadCtx, eArrayElement, eMember, eCmp, eEq, eStoreMember, eCmpConst, eEqConst, eEqHash, eHostMath, eEachNextVar, eEachNextTemp, same, Result}
 use Rattle.semantics.specs.Walk.{Walking, Scope, in-loop, in-handler, _then_, pass, logs, takes, pushes, returns, loads, Walkings, shown, rootShown, walkPlain, walkRule, walk, walks}
 use Rattle.semantics.specs.Walk as K

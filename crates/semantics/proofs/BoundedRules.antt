@@ -17,7 +17,8 @@ use Rattle.semantics.specs.Link.{lowered}
 use Rattle.semantics.specs.Lowering.{Lowerings, memberRead, withRoot, memberStore, isMember, targetRefusal, unless, equalConst, arrayElement-of, lowerPlain, lowerRule, lower, lowers}
 use Rattle.semantics.specs.Payloads.{Path, path}
 use Rattle.semantics.specs.Pieces.{Lowering, flush, failing}
-use Rattle.semantics.specs.Rule.{Rule, ruleAt, Settings}
+use Rattle.ast.specs.Header.{Settings}
+use Rattle.semantics.specs.Rule.{Rule, ruleAt}
 use Rattle.semantics.specs.Run.{Action, eAddLast, eStoreMember, eAddAcc, nothing-open, operand+, operands-, same, begin}
 use Rattle.semantics.specs.State.{empty}
 use Rattle.semantics.specs.Walk.{Completion, normal, missing, broke, again, returned, halted, out, Walking, Scope, inside, in-loop, in-handler, _then_, pass, logs, Walkings, rootShown, walkPlain, walkRule, finish, walked, walk, walks}

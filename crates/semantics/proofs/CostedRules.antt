@@ -17,7 +17,8 @@ use Rattle.semantics.specs.Lowering.{query, arguments, pointed, returnin
 use Rattle.semantics.specs.Machine.{go}
 use Rattle.semantics.specs.Payloads.{link, cases, asName, asHash, asMath, asQuery, constOf, one, two, three, some, just, Path, longer, path, paths}
 use Rattle.semantics.specs.Pieces.{Lowered, Lowering, put, failing, _⨾_, pushed, withConst, withPost, constant, postInstruction, fork, eached}
-use Rattle.semantics.specs.Rule.{Rule, ruleAt, Settings}
+use Rattle.ast.specs.Header.{Settings}
+use Rattle.semantics.specs.Rule.{Rule, ruleAt}
 use Rattle.semantics.specs.Run.{nothing-open, operand+, handler+, same}
 use Rattle.semantics.specs.State.{instr, toCleanup, toCheck, CallInfo, set-calls, State, empty, set-pools}
 use Rattle.semantics.specs.Lowering as L

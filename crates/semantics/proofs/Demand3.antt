@@ -15,7 +15,8 @@ use Rattle.semantics.proofs.BoundedRules.{within}
 use Rattle.semantics.proofs.Fitting.{image-back}
 use Rattle.semantics.proofs.Linked.{correct}
 use Rattle.semantics.specs.Demand3.{treeBehaviour, Within, Agrees, Demand3}
-use Rattle.semantics.specs.Link.{lowered, link, program, settings, refusalOf, programImage}
+use Rattle.ast.specs.Header.{settings}
+use Rattle.semantics.specs.Link.{lowered, link, program, refusalOf, programImage}
 use Rattle.semantics.specs.Machine.{follow, start}
 use Rattle.semantics.specs.Run.{Event, event, argument, same, result, behaviour}
 use Rattle.semantics.specs.State.{first}

@@ -27,7 +27,7 @@ use Rattle.semantics.specs.Payloads.{path}
 use Rattle.semantics.specs.Pieces.{put, _⨾_}
 use Rattle.semantics.specs.Positions.{_⊕_, past}
 use Rattle.semantics.specs.Regions.{argumentStarts}
-use Rattle.semantics.specs.Rule.{Settings}
+use Rattle.ast.specs.Header.{Settings}
 use Rattle.semantics.specs.Run.{nothing-open}
 use Rattle.semantics.specs.State.{Item, CallInfo, MemberRead, Flags, notFloatOnly, empty}
 

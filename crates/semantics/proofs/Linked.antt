@@ -20,7 +20,7 @@ use Rattle.semantics.specs.Machine.{stop, leave, execute, follow, start}
 use Rattle.semantics.specs.Payloads.{some, path}
 use Rattle.semantics.specs.Pieces.{Lowered, flush, itself, hashKey}
 use Rattle.semantics.specs.Positions.{_⊕_, past}
-use Rattle.semantics.specs.Rule.{Settings}
+use Rattle.ast.specs.Header.{Settings}
 use Rattle.semantics.specs.Run.{nothing-open, Result, begin}
 use Rattle.semantics.specs.State.{Item, instr, CallInfo, empty}
 use Rattle.semantics.specs.Walk.{Completion, normal, missing, broke, again, returned, halted, out, inside, finish, walked, walk}

@@ -26,7 +26,8 @@ use Rattle.semantics.specs.Link.{relocate, settle}
 use Rattle.semantics.specs.Lowering.{statements, junction, addition, hosted, stores, target, eachOf, variable, loaded, chained, pointed, returning, Lowerings, memberRead, withRoot, memberStore, isMember, targetRefusal, unless, equalConst, isEmpty, arrayElement-of, lowerPlain, lowerRule, lower, lowers}
 use Rattle.semantics.specs.Payloads.{link, constOf, one, two, three, some, just, Path, path, paths}
 use Rattle.semantics.specs.Pieces.{Lowering, put, nothing, failing, withPost}
-use Rattle.semantics.specs.Rule.{Rule, rules, ruleAt, Settings}
+use Rattle.ast.specs.Header.{Settings}
+use Rattle.semantics.specs.Rule.{Rule, rules, ruleAt}
 use Rattle.semantics.specs.Run.{operand+, handler+, same}
 use Rattle.semantics.specs.State.{instr, toCleanup, toCheck}
 use Rattle.semantics.specs.Rule as R

@@ -6,7 +6,7 @@ use native.Mathlib.Omega.{arith}
 use Rattle.wire.specs.Bytes.{Bytes}
 use Rattle.ast.specs.Node.{parse}
 use Rattle.ast.specs.Questions.{questions}
-use Rattle.semantics.specs.Link.{settings}
+use Rattle.ast.specs.Header.{settings}
 use Rattle.semantics.specs.Link.{program}
 use Rattle.semantics.specs.Regions.{Regions}
 use Rattle.semantics.proofs.Sizes.{nodes-bytes, sizes}

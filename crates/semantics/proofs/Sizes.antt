@@ -12,7 +12,7 @@ use Rattle.semantics.proofs.Costs.{Weight, weigh, stored, asked, apart,
 use Rattle.semantics.specs.Link.{settle, place-segments, offsetsOf, place-call, memberEntry, lowered, link, program}
 use Rattle.semantics.specs.Positions.{_⊕_, past}
 use Rattle.semantics.specs.Regions.{pathEntries, argumentStarts}
-use Rattle.semantics.specs.Rule.{Settings}
+use Rattle.ast.specs.Header.{Settings}
 use Rattle.semantics.specs.State.{Item, CallInfo}
 
 -- Sizes of the program, by the tree's nodes and bytes: what the workspace's regions must hold. Assumes nothing.

@@ -5,13 +5,14 @@ use mathlib.Core.List.{List, [], _∷_}
 use mathlib.Core.Option.{some}
 use Prim.Native.Nat.{ℕ, _≤_}
 use Rattle.wire.specs.Bytes.{Bytes}
+use Rattle.ast.specs.Header.{settings}
 use Rattle.ast.specs.Node.{parse}
 use Rattle.program.specs.Program.{Counts}
 use Rattle.program.specs.Image.{read}
 use Rattle.semantics.specs.Run.{Event, event, argument, Result, Behaviour, behaviour}
 use Rattle.semantics.specs.Walk.{walked}
 use Rattle.semantics.specs.Machine.{follow, start}
-use Rattle.semantics.specs.Link.{settings, refusalOf, programImage}
+use Rattle.semantics.specs.Link.{refusalOf, programImage}
 
 -- what the walk over the tree of an image shows
 unfoldable pub treeBehaviour : List ℕ → List Bool → Behaviour

@@ -4,10 +4,9 @@ use mathlib.Core.Bool.{false, cond}
 use mathlib.Core.List.{List, [], _∷_, _++_, map}
 use mathlib.Core.Option.{Option, some, none}
 use Prim.Native.Nat.{ℕ}
-use lib.Dec.{eqb}
 use lib.ListN.{length}
-use Rattle.wire.specs.Bytes.{be8}
 use Rattle.numeric.specs.Post.{identity}
+use Rattle.ast.specs.Header.{Settings, settings}
 use Rattle.ast.specs.Tree.{Tree}
 use Rattle.ast.specs.Node.{parse}
 use Rattle.ast.specs.Questions.{questions}
@@ -17,7 +16,6 @@ use Rattle.program.specs.Instruction.{Instruction}
 use Rattle.program.specs.Program.{MemberEntry, QueryCall, Program}
 use Rattle.program.specs.Image.{image}
 use Rattle.semantics.specs.Positions.{_⊕_, past}
-use Rattle.semantics.specs.Rule.{Settings}
 use Rattle.semantics.specs.Run.{nothing-open}
 use Rattle.semantics.specs.State.{Item, instr, toCleanup, toCheck, CallInfo, MemberRead, Flags, notFloatOnly, State, empty, first}
 use Rattle.semantics.specs.Pieces.{Lowered, put, _⨾_}
@@ -95,10 +93,6 @@ link x =
 
 unfoldable pub program : Settings → Tree → Program
 program S t = link (lowered S t)
-
--- 01, The tree image: "Arrays byte (0 Unresolved, 1 FromHost). Divisor byte (0 Signed, 1 Absolute)"
-unfoldable pub settings : List ℕ → Settings
-settings s = record { fromHost = eqb (be8 s 0 5) 1; absolute = eqb (be8 s 0 6) 1 }
 
 -- questions 2 to 8: the number of the first that is answered by no, else 0
 unfoldable pub refusalOf : List ℕ → ℕ

@@ -1,4 +1,4 @@
--- The rules, the rule of each operator code, and the two settings of a tree. Definitions only.
+-- The rules, and the rule of each operator code. Definitions only.
 use mathlib.Core.Bool.{Bool, true, false}
 use mathlib.Core.List.{List, [], _∷_}
 use Prim.Native.Nat.{ℕ}
@@ -38,8 +38,3 @@ rules =
 
 unfoldable pub ruleAt : ℕ → Rule
 ruleAt op = getD rules (ruleOf op) (plain refused)
-
--- 01, The tree image: "Arrays byte (0 Unresolved, 1 FromHost). Divisor byte (0 Signed, 1 Absolute)"
-pub record Settings : Type 0 where
-  pub fromHost : Bool
-  pub absolute : Bool

@@ -5,10 +5,11 @@ use Prim.Native.Nat.{ℕ, zero, suc}
 use lib.Dec.{leb}
 use lib.ListN.{length}
 use Rattle.numeric.specs.Post.{Post, identity, isIdentity, fold}
+use Rattle.ast.specs.Header.{Settings}
 use Rattle.ast.specs.Tree.{Payload, Tree, node, Forest, nil, cons}
 use Rattle.program.specs.Program.{Counts, StoreRoot, rootVar, rootTemp, rootOther}
 use Rattle.semantics.specs.Rule as R
-use Rattle.semantics.specs.Rule.{Rule, ruleAt, Settings}
+use Rattle.semantics.specs.Rule.{Rule, ruleAt}
 use Rattle.semantics.specs.Payloads.{asName, asHash, asMath, asQuery, floatOf, constOf, stringOf, resourceOf}
 use Rattle.semantics.specs.Payloads.{one, two, three, some, just, Path, path, Kinds, byKind}
 use Rattle.semantics.specs.Run as E

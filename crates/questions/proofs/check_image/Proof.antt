@@ -1,4 +1,5 @@
 use Prim.Native.Nat.{ℕ}
+use Rattle.ast.specs.Header.{LEVELS, ALL-LEVELS}
 use Rattle.ast.specs.Questions.{rooted, whole, formed, shallow}
 use Rattle.questions.proofs.Cases.{settings, bad-arrays, bad-divisor, answer-0, answer-2, answer-3, answer-4}
 use Rattle.questions.proofs.MoreLevels.{more-levels}
@@ -14,7 +15,7 @@ is-whole : (c : tie.Then1) → whole (c .before .before .before .args .tree .now
 is-whole c = sym (c .before .whole-at .ensures) ∙ c .if1 .taken
 
 -- where both settings are right the rows decide
-by-rows : (c : tie.Else3) → formed (c .before .before .before .before .before .before .before .args .tree .now) ≡ rooted 383 (c .before .before .before .before .before .before .before .args .tree .now)
+by-rows : (c : tie.Else3) → formed (c .before .before .before .before .before .before .before .args .tree .now) ≡ rooted ALL-LEVELS (c .before .before .before .before .before .before .before .args .tree .now)
 by-rows c = sym (settings (c .before .before .before .before .before .before .before .args .tree .now) (omega arith) (omega arith))
 
 whole-at-requires : tie.Need-whole-at-requires
@@ -42,7 +43,7 @@ unfolding rooted shallow
 returns-3 c =
     let s : List ℕ = c .before .before .before .before .before .before .before .before .before .args .tree .now in
     let h : shallow s ≡ true = sym (c .before .row-at .ensures) ∙ c .if4 .taken in
-    answer-0 s (is-whole (c .before .before .before .before .before .before)) (by-rows (c .before .before) ∙ more-levels s 64 383 (omega arith) h) h
+    answer-0 s (is-whole (c .before .before .before .before .before .before)) (by-rows (c .before .before) ∙ more-levels s LEVELS ALL-LEVELS (omega arith) h) h
 
 row-at-requires-2 : tie.Need-row-at-requires-2
 row-at-requires-2 c κs = search needs
@@ -51,7 +52,7 @@ returns-4 : tie.Need-returns-4
 unfolding rooted shallow
 returns-4 c =
     let s : List ℕ = c .before .before .before .before .before .before .before .before .before .before .before .args .tree .now in
-    let r : rooted 383 s ≡ true = sym (c .before .row-at2 .ensures) ∙ c .if5 .taken in
+    let r : rooted ALL-LEVELS s ≡ true = sym (c .before .row-at2 .ensures) ∙ c .if5 .taken in
     let h : shallow s ≡ false = sym (c .before .before .before .row-at .ensures) ∙ c .before .before .if4 .left in
     answer-4 s (is-whole (c .before .before .before .before .before .before .before .before)) (by-rows (c .before .before .before .before) ∙ r) h
 
@@ -59,7 +60,7 @@ returns-5 : tie.Need-returns-5
 unfolding rooted
 returns-5 c =
     let s : List ℕ = c .before .before .before .before .before .before .before .before .before .before .before .args .tree .now in
-    let r : rooted 383 s ≡ false = sym (c .before .row-at2 .ensures) ∙ c .if5 .left in
+    let r : rooted ALL-LEVELS s ≡ false = sym (c .before .row-at2 .ensures) ∙ c .if5 .left in
     answer-3 s (is-whole (c .before .before .before .before .before .before .before .before)) (by-rows (c .before .before .before .before) ∙ r)
 
 returns-6 : tie.Need-returns-6
