@@ -16,7 +16,7 @@ use Rattle.program.specs.Instruction as N
 use Rattle.program.specs.Program.{Counts}
 use Rattle.program.specs.Image.{wordOf, word}
 use Rattle.semantics.specs.Run.{handler+, same, opens}
-use Rattle.semantics.specs.Rule.{ruleAt}
+use Rattle.ast.specs.Rules.{ruleAt}
 use Rattle.semantics.specs.State as S
 use Rattle.semantics.specs.Payloads as P
 use Rattle.semantics.specs.Pieces.{Lowering, put, failing, flagged, withName, withTemp, withPost, constant, postInstruction, fork, looped, eached, _⨾_}

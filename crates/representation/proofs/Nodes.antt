@@ -8,13 +8,12 @@ use native.Mathlib.Decide.{decLt}
 use lib.Dec.{eqb, leb}
 use lib.ListN.{length, getD}
 use borrow.Author.Tests.{leb-true}
-use Rattle.ast.specs.Rules.{ruleOf}
+use Rattle.ast.specs.Rules as U
+use Rattle.ast.specs.Rules.{Rule, rules, ruleOf, ruleAt}
 use Rattle.ast.specs.Tree.{Forest}
 use Rattle.ast.specs.Node.{opAt, payloadAt, countAt, firstAt, nextAt, trees, treeAt}
 use Rattle.program.specs.Program.{Counts, Program}
 use Rattle.semantics.specs.Run.{Result, byEnd, nothing-open}
-use Rattle.semantics.specs.Rule as U
-use Rattle.semantics.specs.Rule.{Rule, rules, ruleAt}
 use Rattle.semantics.specs.State.{toCleanup, toCheck, CallInfo, State}
 use Rattle.semantics.specs.Lowering.{Lowerings, arguments, lowerPlain, lowerRule, lower, lowers}
 use Rattle.ast.specs.Header.{Settings, settings, LEVELS}

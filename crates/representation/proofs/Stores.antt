@@ -12,7 +12,7 @@ use lib.Seq.{sets}
 use borrow.Author.Tests.{ne-eqb, lt-ltb}
 use Rattle.ast.specs.Tree as T
 use Rattle.ast.specs.Header.{LEVELS}
-use Rattle.ast.specs.Rules.{ruleOf}
+use Rattle.ast.specs.Rules.{refused, Rule, member, plain, rules, ruleOf, ruleAt}
 use Rattle.ast.specs.Node.{opAt, payloadAt, countAt, firstAt, trees, treeAt}
 use Rattle.program.specs.Kinds.{USES-MEMBERS}
 use Rattle.program.specs.Instruction as I
@@ -23,7 +23,6 @@ use Rattle.payload.specs.declared.Payload.{Payload}
 use Rattle.payload.specs.declared.Payload.the-variants.{None, Float, Hash, Context, Entity, Temp, Member, ArrayVariable, Geometry, Material, Texture, Query, HostMath}
 use Rattle.payload.specs.Payloads.{payloadRefAt, meant}
 use Rattle.payload.proofs.Meant.{payload-meant}
-use Rattle.semantics.specs.Rule.{refused, Rule, member, plain, rules, ruleAt}
 use Rattle.semantics.specs.Payloads as P
 use Rattle.semantics.specs.State.{State, set-pools, set-stores}
 use Rattle.semantics.specs.State as S

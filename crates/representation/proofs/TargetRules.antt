@@ -8,10 +8,9 @@ use lib.Dec.{eqb}
 use lib.ListN.{getD}
 use borrow.Author.Tests.{ne-eqb}
 use Rattle.ast.specs.Tree as T
-use Rattle.ast.specs.Rules.{ruleOf}
+use Rattle.ast.specs.Rules.{Plain, array, usesArrays, usesResources, float, string, resource, this, load, query, compare, equal, logic, coalesce, conditional, statements, loop, forEach, break, continue, assign, bracket, unary, add, mul, div, hostMath, generic, refused, Rule, return, member, entity, pointer, plain, rules, ruleOf, ruleAt}
 use Rattle.ast.specs.Node.{opAt, payloadAt}
 use Rattle.payload.specs.Payloads.{payloadRefAt}
-use Rattle.semantics.specs.Rule.{Plain, array, usesArrays, usesResources, float, string, resource, this, load, query, compare, equal, logic, coalesce, conditional, statements, loop, forEach, break, continue, assign, bracket, unary, add, mul, div, hostMath, generic, refused, Rule, return, member, entity, pointer, plain, rules, ruleAt}
 use Rattle.semantics.specs.Payloads as P
 use Rattle.semantics.specs.Lowering as D
 use Rattle.lowering.specs.Payloads as Q

@@ -18,13 +18,13 @@ use Rattle.semantics.specs.Lowering.{Lowerings, memberRead, withRoot, me
 use Rattle.semantics.specs.Payloads.{Path, path}
 use Rattle.semantics.specs.Pieces.{Lowering, flush, failing}
 use Rattle.ast.specs.Header.{Settings}
-use Rattle.semantics.specs.Rule.{Rule, ruleAt}
+use Rattle.ast.specs.Rules.{Rule, ruleAt}
+use Rattle.ast.specs.Rules as R
 use Rattle.semantics.specs.Run.{Action, eAddLast, eStoreMember, eAddAcc, nothing-open, operand+, operands-, same, begin}
 use Rattle.semantics.specs.State.{empty}
 use Rattle.semantics.specs.Walk.{Completion, normal, missing, broke, again, returned, halted, out, Walking, Scope, inside, in-loop, in-handler, _then_, pass, logs, Walkings, rootShown, walkPlain, walkRule, finish, walked, walk, walks}
 use Rattle.semantics.specs.Walk as K
 use Rattle.semantics.specs.Lowering as L
-use Rattle.semantics.specs.Rule as R
 
 -- Every rule's walk stays within the maxima that its lowering raised; so does a whole tree's. Assumes nothing.
 

@@ -18,11 +18,11 @@ use Rattle.semantics.specs.Machine.{go}
 use Rattle.semantics.specs.Payloads.{link, cases, asName, asHash, asMath, asQuery, constOf, one, two, three, some, just, Path, longer, path, paths}
 use Rattle.semantics.specs.Pieces.{Lowered, Lowering, put, failing, _⨾_, pushed, withConst, withPost, constant, postInstruction, fork, eached}
 use Rattle.ast.specs.Header.{Settings}
-use Rattle.semantics.specs.Rule.{Rule, ruleAt}
+use Rattle.ast.specs.Rules.{Rule, ruleAt}
+use Rattle.ast.specs.Rules as R
 use Rattle.semantics.specs.Run.{nothing-open, operand+, handler+, same}
 use Rattle.semantics.specs.State.{instr, toCleanup, toCheck, CallInfo, set-calls, State, empty, set-pools}
 use Rattle.semantics.specs.Lowering as L
-use Rattle.semantics.specs.Rule as R
 use Rattle.semantics.proofs.Costs as C
 
 -- The cost of each rule and of a whole tree: a node pays for itself, and for its parent an instruction and an argument. Assumes nothing.

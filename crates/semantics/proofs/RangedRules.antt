@@ -1,4 +1,5 @@
-use Rattle.ast.specs.Rules.{ruleOf}
+use Rattle.ast.specs.Rules.{Rule, rules, ruleOf, ruleAt}
+use Rattle.ast.specs.Rules as R
 use borrow.Author.Tests.{leb-true}
 use Rattle.numeric.proofs.PostFits.{fold-fits-four}
 use mathlib.Core.Path.{_≡_, refl}
@@ -27,10 +28,8 @@ use Rattle.semantics.specs.Lowering.{statements, junction, addition, hos
 use Rattle.semantics.specs.Payloads.{link, constOf, one, two, three, some, just, Path, path, paths}
 use Rattle.semantics.specs.Pieces.{Lowering, put, nothing, failing, withPost}
 use Rattle.ast.specs.Header.{Settings}
-use Rattle.semantics.specs.Rule.{Rule, rules, ruleAt}
 use Rattle.semantics.specs.Run.{operand+, handler+, same}
 use Rattle.semantics.specs.State.{instr, toCleanup, toCheck}
-use Rattle.semantics.specs.Rule as R
 
 -- Each rule's lowering fits; so does a whole tree's, if its own fields fit. Assumes nothing.
 

@@ -1,5 +1,4 @@
 pub mod Positions
-pub mod Rule
 pub mod Payloads
 pub mod Run
 pub mod Walk

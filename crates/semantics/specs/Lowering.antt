@@ -7,14 +7,14 @@ use lib.Dec.{leb}
 use lib.ListN.{length}
 use Rattle.numeric.specs.Post.{Post, fold}
 use Rattle.ast.specs.Header.{Settings}
+use Rattle.ast.specs.Rules as R
+use Rattle.ast.specs.Rules.{Rule, ruleAt}
 use Rattle.ast.specs.Tree.{Name, Payload, Tree, node, Forest, nil, cons}
 use Rattle.program.specs.Kinds.{HAS-ASSIGNMENT, HAS-LOOPS, READS-ACTOR-VARS, READS-CONTEXT, USES-ARROW, USES-MEMBERS, USES-RANDOM, USES-RANDOM-OP}
 use Rattle.program.specs.Instruction as I
 use Rattle.program.specs.Instruction.{Plain, Guard, EachNext}
 use Rattle.program.specs.Program.{Counts, StoreRoot, rootVar, rootTemp, rootOther}
 use Rattle.semantics.specs.Positions.{past}
-use Rattle.semantics.specs.Rule as R
-use Rattle.semantics.specs.Rule.{Rule, ruleAt}
 use Rattle.semantics.specs.Payloads as P
 use Rattle.semantics.specs.Payloads.{Kinds, byKind, asName, asHash, asMath, asQuery, floatOf, constOf}
 use Rattle.semantics.specs.Payloads.{stringOf, resourceOf, one, two, three, just, Path, path}

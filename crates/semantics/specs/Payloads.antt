@@ -4,7 +4,7 @@ use mathlib.Core.List.{List, [], _∷_, _++_}
 use Prim.Native.Nat.{ℕ, _%_, _^_}
 use native.Mathlib.Decide.{ℕ-discrete}
 use Rattle.ast.specs.Tree.{Name, Payload, pNone, pFloat, pHash, pMath, pName, pQuery, Tree, node, Forest, nil, cons}
-use Rattle.semantics.specs.Rule.{Rule, return, member, entity, pointer, plain, ruleAt}
+use Rattle.ast.specs.Rules.{Rule, return, member, entity, pointer, plain, ruleAt}
 
 -- by the payload's constructor, in the order of Tree
 unfoldable pub cases : {X : Type 0} → Payload → X → (ℕ → X) → (ℕ → X) → (ℕ → X) → (ℕ → Name → X) → (ℕ → ℕ → X) → X
