@@ -1,4 +1,4 @@
--- The image of a tree: 01's section a second time, from the tree to the bytes. Definitions only.
+-- The image of a tree (01's section a second time, from the tree to the bytes), its height, and what fits its fields. Definitions only.
 use Prim.Native.Nat.{ℕ, suc, _+_, _≤_, _<_, _^_, max}
 use mathlib.Core.Path.{_≡_}
 use mathlib.Core.Bool.{true}

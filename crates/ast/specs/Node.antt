@@ -1,4 +1,5 @@
--- The fields of the node that begins at a place of an image, and the tree there. Definitions only. Every field can be read at every place: past the end all bytes are 0, and no place lies past the end.
+-- The fields of the node that begins at a place of an image, and the tree there. Definitions only.
+-- Every field can be read at every place: past the end all bytes are 0, and no place lies past the end.
 use Prim.Native.Nat.{ℕ, zero, suc, _+_}
 use mathlib.Core.List.{List, [], _∷_}
 use lib.ListN.{getD, take, drop}

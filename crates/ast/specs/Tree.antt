@@ -8,7 +8,8 @@ pub record Name : Type 0 where
   pub hash : ℕ
   pub text : List ℕ
 
--- 01, The tree image: "0 None, 1 Float (4 bytes), 2 Hash (8), 3 Context, 4 Entity, 5 Temp, 6 Member, 7 ArrayVariable, 8 Geometry, 9 Material, 10 Texture, 11 Query (index 2, impl_idx 1), 12 HostMath (2)"; a name has its kind, 3 to 10
+-- 01, The tree image: "0 None, 1 Float (4 bytes), 2 Hash (8), 3 Context, 4 Entity, 5 Temp, 6 Member, 7 ArrayVariable, 8 Geometry,
+-- 9 Material, 10 Texture, 11 Query (index 2, impl_idx 1), 12 HostMath (2)"; a name has its kind, 3 to 10
 pub data Payload : Type 0 where
   pNone : Payload
   pFloat pHash pMath : ℕ → Payload

@@ -1,4 +1,4 @@
--- The program image that a workspace, its sections' counts and a tree image stand for. Definitions only.
+-- The program image that a workspace, its sections' counts and a tree image stand for, and what is answered and written. Definitions only.
 use mathlib.Core.List.{List, [], _∷_, _++_}
 use mathlib.Core.Bool.{cond}
 use Prim.Native.Nat.{ℕ, _+_, _*_, _/_, _%_}
@@ -60,7 +60,9 @@ memberEntry tree ws k = memberBytes tree ws (MEMBERS + 6 * k)
 
 -- 01, The program image: "stores (root 0 Var, 1 Temp, 2 Other; index 2, 0 for Other; path count 2; hashes)"
 unfoldable pub storeBytes : List ℕ → ℕ → ℕ → ℕ → ℕ → List ℕ
-storeBytes ws root index first count = be 1 (root % 256) [] ++ be 2 (index % 65536) [] ++ be 2 (count % 65536) [] ++ cat (wordEntry ws (PATHS + 2 * first) 0) (2 * (count % 65536))
+storeBytes ws root index first count =
+    be 1 (root % 256) [] ++ be 2 (index % 65536) []
+    ++ be 2 (count % 65536) [] ++ cat (wordEntry ws (PATHS + 2 * first) 0) (2 * (count % 65536))
 
 abbrev pub storeAt : List ℕ → ℕ → List ℕ
 storeAt ws k = storeBytes ws (getD ws k 0) (getD ws (k + 1) 0) (getD ws (k + 2) 0) (getD ws (k + 3) 0)
@@ -70,7 +72,9 @@ storeEntry ws k = storeAt ws (STORES + 4 * k)
 
 -- 01, The program image: "calls (index 2, impl_idx 1, argument count 2, starts 4 each)"
 unfoldable pub callBytes : List ℕ → ℕ → ℕ → ℕ → ℕ → ℕ → List ℕ
-callBytes ws base index impl count first = be 2 (index % 65536) [] ++ be 1 (impl % 256) [] ++ be 2 (count % 65536) [] ++ cat (wordEntry ws (ARGUMENTS + first) base) (count % 65536)
+callBytes ws base index impl count first =
+    be 2 (index % 65536) [] ++ be 1 (impl % 256) []
+    ++ be 2 (count % 65536) [] ++ cat (wordEntry ws (ARGUMENTS + first) base) (count % 65536)
 
 abbrev pub callAt : List ℕ → ℕ → ℕ → List ℕ
 callAt ws base k = callBytes ws base (getD ws k 0) (getD ws (k + 1) 0) (getD ws (k + 2) 0) (getD ws (k + 3) 0)
@@ -115,10 +119,20 @@ closingBytes c = depthsBytes c ++ be 2 (c .flags) [] ++ be 1 (bit (c .«float_lo
 
 -- all behind the length, in two parts, and the whole
 unfoldable pub frontOf : List ℕ → List ℕ → Sections → List ℕ
-frontOf tree ws c = codeSection ws (c .code) (c .finished) ++ constsSection ws (c .consts) ++ postsSection ws (c .posts) ++ hashesSection ws (c .hashes) ++ namesSection tree ws (c .names)
+frontOf tree ws c =
+    codeSection ws (c .code) (c .finished)
+    ++ constsSection ws (c .consts)
+    ++ postsSection ws (c .posts)
+    ++ hashesSection ws (c .hashes)
+    ++ namesSection tree ws (c .names)
 
 unfoldable pub backOf : List ℕ → List ℕ → Sections → List ℕ
-backOf tree ws c = tempsSection ws (c .temps) ++ membersSection tree ws (c .members) ++ storesSection ws (c .stores) ++ callsSection ws (c .code) (c .calls) ++ closingBytes c
+backOf tree ws c =
+    tempsSection ws (c .temps)
+    ++ membersSection tree ws (c .members)
+    ++ storesSection ws (c .stores)
+    ++ callsSection ws (c .code) (c .calls)
+    ++ closingBytes c
 
 unfoldable pub bodyOf : List ℕ → List ℕ → Sections → List ℕ
 bodyOf tree ws c = frontOf tree ws c ++ backOf tree ws c

@@ -1,4 +1,4 @@
--- Bytes that are laid over a list from a place on, as far as it reaches. Definitions only.
+-- Bytes that are laid over a list from a place on, as far as it reaches, and entries one behind the other. Definitions only.
 use mathlib.Core.Path.{_≡_}
 use mathlib.Core.List.{List, [], _++_}
 use Prim.Native.Nat.{ℕ, zero, suc, _+_}

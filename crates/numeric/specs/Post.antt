@@ -17,7 +17,8 @@ identity = record { scale = 0x3f80_0000; offset = 0 }
 unfoldable pub isIdentity : Post → Bool
 isIdentity p = eqb (p .scale) 0x3f80_0000 && (eqb (p .offset) 0 || eqb (p .offset) 0x8000_0000)
 
--- 01, Modules: "one binary32 product, then one binary32 sum, each rounded to nearest, ties to even, subnormals kept; a NaN result is 7FC00000": every NaN's pattern reads as the one NaN, whose pattern is that
+-- 01, Modules: "one binary32 product, then one binary32 sum, each rounded to nearest, ties to even, subnormals kept;
+-- a NaN result is 7FC00000": every NaN's pattern reads as the one NaN, whose pattern is that
 unfoldable pub scaled : Post → ℕ → ℕ
 scaled p raw = toBits binary32 (add binary32 (mul binary32 (ofBits binary32 raw) (ofBits binary32 (p .scale))) (ofBits binary32 (p .offset)))
 

@@ -29,7 +29,8 @@ unfoldable pub isSet : ℕ → Bool
 isSet zero = false
 isSet (suc n) = true
 
--- 01, The program image: "Sub: .. A is the target or pool index, or HostMath's function, else 0. B is the post; in EachNextVar and EachNextTemp, A is the exit and B the variable; else 0."
+-- 01, The program image: "Sub: .. A is the target or pool index, or HostMath's function, else 0. B is the post;
+-- in EachNextVar and EachNextTemp, A is the exit and B the variable; else 0."
 unfoldable pub wordOf : Instruction → Word
 wordOf (I.plain (I.const c)) = word 1 0 c 0
 wordOf (I.plain (I.hash h)) = word 2 0 h 0
@@ -82,7 +83,9 @@ wordOf I.end = word 48 0 0 0
 
 -- the instruction of each opcode from 0 on, by sub, A and B; 0 is none
 unfoldable pub shapes : List (ℕ → ℕ → ℕ → Instruction)
-shapes = (λ s a b. I.halt) ∷ (λ s a b. I.plain (I.const a)) ∷ (λ s a b. I.plain (I.hash a)) ∷ (λ s a b. I.plain (I.resource a)) ∷ (λ s a b. I.plain (I.this b))
+shapes =
+    (λ s a b. I.halt)
+    ∷ (λ s a b. I.plain (I.const a)) ∷ (λ s a b. I.plain (I.hash a)) ∷ (λ s a b. I.plain (I.resource a)) ∷ (λ s a b. I.plain (I.this b))
     ∷ (λ s a b. I.reading (I.loadVar a b)) ∷ (λ s a b. I.reading (I.loadTemp a b)) ∷ (λ s a b. I.reading (I.loadCtx a b))
     ∷ (λ s a b. I.reading (I.arrayElement a b)) ∷ (λ s a b. I.reading (I.member a b))
     ∷ (λ s a b. I.plain (I.storeVar a b)) ∷ (λ s a b. I.plain (I.storeTemp a b)) ∷ (λ s a b. I.plain (I.storeMember a b))

@@ -7,7 +7,8 @@ use lib.Dec.{leb}
 unfoldable pub inFloatLoop : ℕ → ℕ → ℕ → ℕ → Bool
 inFloatLoop stack loops handlers temps = leb stack 16 && (leb loops 4 && (leb handlers 4 && leb temps 8))
 
--- 01, The program image: "Flag bits from 0: FLOAT_ONLY, READS_ACTOR_VARS, USES_TEMPS, READS_CONTEXT, USES_MEMBERS, HAS_ASSIGNMENT, HAS_LOOPS, USES_ARROW, USES_QUERIES, USES_RANDOM, USES_RANDOM_OP"
+-- 01, The program image: "Flag bits from 0: FLOAT_ONLY, READS_ACTOR_VARS, USES_TEMPS, READS_CONTEXT, USES_MEMBERS, HAS_ASSIGNMENT,
+-- HAS_LOOPS, USES_ARROW, USES_QUERIES, USES_RANDOM, USES_RANDOM_OP"
 abbrev pub FLOAT-ONLY : ℕ
 FLOAT-ONLY = 1
 

@@ -9,7 +9,8 @@ unfoldable pub among : List ℕ → ℕ → ℕ → ℕ
 among [] op base = 0
 among (k ∷ ks) op base = cond (eqb op k) base (among ks op base)
 
--- the opcodes whose A is a target: DivGuard, AndStep, OrStep, Jump, JumpIfFalsy, HandlerPush, HandlerPop, PointerEnter, LoopBegin, LoopCheck, EachBegin, EachNextVar, EachNextTemp, from the last
+-- the opcodes whose A is a target: DivGuard, AndStep, OrStep, Jump, JumpIfFalsy, HandlerPush, HandlerPop, PointerEnter,
+-- LoopBegin, LoopCheck, EachBegin, EachNextVar, EachNextTemp, from the last
 abbrev pub leading : List ℕ
 leading = 45 ∷ 44 ∷ 43 ∷ 41 ∷ 40 ∷ 37 ∷ 36 ∷ 35 ∷ 33 ∷ 32 ∷ 29 ∷ 28 ∷ 20 ∷ []
 

@@ -37,7 +37,8 @@ Within declared [] = Unit {0}
 Within declared (event a c ∷ log) = AtMost c declared × Within declared log
 Within declared (argument j ∷ log) = Within declared log
 
--- 01, Walk: "Their logs are one and the same list, counts included"; same ending, same number of outcomes used; and "Declared are the closing fields stack (for operands), loops and handlers"
+-- 01, Walk: "Their logs are one and the same list, counts included"; same ending, same number of outcomes used;
+-- and "Declared are the closing fields stack (for operands), loops and handlers"
 pub record Agrees (tree card : List ℕ) (outcomes : List Bool) : Type 0 where
   pub runs : Shows card outcomes (treeBehaviour tree outcomes)
   pub bounded : Within (read card .depths) (treeBehaviour tree outcomes .log)

@@ -9,8 +9,7 @@ use Rattle.program.specs.Instruction.{Plain, Taking, Reading, Guard, EachNext, 
 use Rattle.program.specs.Program.{Counts, StoreRoot, rootVar, rootTemp, rootOther, Program, codeAt, constAt}
 use Rattle.program.specs.Program.{postAt, hashAt, nameAt, slotAt, memberAt, storeAt, callAt, startAt}
 use Rattle.semantics.specs.Run as E
-use Rattle.semantics.specs.Run.{Action, Run, set-counts, note, note-argument, operand+, operands-, handler+, handler-, opens}
-use Rattle.semantics.specs.Run.{closes, count, draw, Ending, byEnd, byReturn, byHalt, byOut, Result, result, begin}
+use Rattle.semantics.specs.Run.{Action, Run, set-counts, note, note-argument, operand+, operands-, handler+, handler-, count, draw, Result, result}
 
 -- 01, Walk: "Names and members show their own hash, .. a store its root's kind, its root's hash unless Other, and its path"
 unfoldable pub rootAt : Program → StoreRoot → StoreRoot
@@ -110,7 +109,7 @@ pub data Next : Type 0 where
   stop : Result → Next
 
 abbrev pub dry : Run → Next
-dry w = stop (result byOut w)
+dry w = stop (result E.byOut w)
 
 -- 01, Walk: "A missing value goes to the innermost handler of its segment, counts cut back to those before its HandlerPush; with none, on."
 unfoldable pub missed : List Open → Run → List Frame → Next → Next
@@ -129,19 +128,19 @@ cut (handler t c ∷ es) = cut es
 
 -- 01, Walk: "Before they log, LoopCheck, EachNext and LoopEnd cut back to just after the loop's start"
 unfoldable pub check : Action → ℕ → ℕ → Run → List Frame → List Open → Next
-check a yes-to no-to w fs [] = stop (result byHalt w)
-check a yes-to no-to w fs (handler u c ∷ es) = stop (result byHalt w)
+check a yes-to no-to w fs [] = stop (result E.byHalt w)
+check a yes-to no-to w fs (handler u c ∷ es) = stop (result E.byHalt w)
 check a yes-to no-to w fs (loop k c ∷ es) = draw (note a (set-counts c w)) dry
     (λ w. go (machine yes-to w (loop k c ∷ es) fs))
     (λ w. go (machine no-to w (loop k c ∷ es) fs))
 
 unfoldable pub close : ℕ → Run → List Frame → List Open → Next
-close n w fs [] = stop (result byHalt w)
-close n w fs (handler u c ∷ es) = stop (result byHalt w)
-close n w fs (loop k c ∷ es) = go (machine n (set-counts (closes k c) (note E.eLoopEnd (set-counts c w))) es fs)
+close n w fs [] = stop (result E.byHalt w)
+close n w fs (handler u c ∷ es) = stop (result E.byHalt w)
+close n w fs (loop k c ∷ es) = go (machine n (set-counts (E.closes k c) (note E.eLoopEnd (set-counts c w))) es fs)
 
 abbrev pub open-loop : Bool → ℕ → Run → List Open → List Frame → Next
-open-loop k n w es fs = go (machine n (count (opens k) w) (loop k (opens k (w .counts)) ∷ es) fs)
+open-loop k n w es fs = go (machine n (count (E.opens k) w) (loop k (E.opens k (w .counts)) ∷ es) fs)
 
 -- 01, Walk: "Call logs, runs its arguments in order from the counts open there, .. and only then draws": call k with `todo` arguments left
 unfoldable pub enter : Program → ℕ → (todo : ℕ) → ℕ → ℕ → Run → List Open → List Frame → Next
@@ -150,7 +149,7 @@ enter P k (suc m) j n w es fs = go (machine (startAt P k j) (note-argument j w) 
     (record { back = n; callee = k; todo = m; number = suc j; counts = w .counts; control = es } ∷ fs))
 
 -- 01, Walk: "Return or End ends its segment and restores the counts there."
-unfoldable pub leave : Program → Ending → Run → List Frame → Next
+unfoldable pub leave : Program → E.Ending → Run → List Frame → Next
 leave P e w [] = stop (result e w)
 leave P e w (f ∷ fs) = enter P (f .callee) (f .todo) (f .number) (f .back) (set-counts (f .counts) w) (f .control) fs
 
@@ -172,9 +171,9 @@ execute P (I.eachNext i t) n w es fs = check (eachAction P i) (suc n) t w fs (cu
 execute P I.loopEnd n w es fs = close (suc n) w fs (cut es)
 execute P (I.call k p) n w es fs = enter P k (length (callAt P k .starts)) 0 (suc n)
     (note (E.eCall (callAt P k .index) (callAt P k .impl) (length (callAt P k .starts)) (postAt P p)) w) es fs
-execute P (I.return p) n w es fs = leave P byReturn (note (E.eReturn (postAt P p)) w) fs
-execute P I.halt n w es fs = stop (result byHalt (note E.eHalt w))
-execute P I.end n w es fs = leave P byEnd w fs
+execute P (I.return p) n w es fs = leave P E.byReturn (note (E.eReturn (postAt P p)) w) fs
+execute P I.halt n w es fs = stop (result E.byHalt (note E.eHalt w))
+execute P I.end n w es fs = leave P E.byEnd w fs
 
 unfoldable pub step : Program → Machine → Next
 step P m = execute P (codeAt P (m .pc)) (m .pc) (m .run) (m .control) (m .frames)
@@ -188,4 +187,4 @@ follow P (suc n) (go m) = follow P n (step P m)
 
 -- 01, Walk: "and the step machine at the first instruction of the image written, both with nothing open and with the same outcomes"
 abbrev pub start : List Bool → Next
-start outcomes = go (machine 0 (begin outcomes) [] [])
+start outcomes = go (machine 0 (E.begin outcomes) [] [])

@@ -1,4 +1,4 @@
--- What the rules read in a payload, and the member path that an assignment stores to. Definitions only.
+-- What the rules read in a payload, the first children of a node, and the member path that an assignment stores to. Definitions only.
 use mathlib.Core.Bool.{Bool, true, false}
 use mathlib.Core.List.{List, [], _∷_, _++_}
 use Prim.Native.Nat.{ℕ, _%_, _^_}

@@ -8,13 +8,13 @@ use native.Mathlib.Decide.{ℕ-discrete}
 use Rattle.numeric.specs.Post.{Post, isIdentity}
 use Rattle.ast.specs.Tree.{Name}
 use Rattle.program.specs.Kinds.{USES-TEMPS}
-use Rattle.program.specs.Instruction.{const, post, Guard, EachNext, Instruction, plain, guard, push, loopEnd}
-use Rattle.program.specs.Instruction.{halt, pushConst, jump, loopBegin, loopCheck, eachBegin, eachNext}
+use Rattle.program.specs.Instruction as I
+use Rattle.program.specs.Instruction.{Guard, EachNext, Instruction}
 use Rattle.program.specs.Program.{Counts, MemberStore}
 use Rattle.semantics.specs.Positions.{past, slot, intern, pair-discrete}
 use Rattle.semantics.specs.Run.{operand+, opens}
-use Rattle.semantics.specs.State.{Item, instr, toCleanup, toCheck, MemberRead, Pools, set-consts, set-posts, set-hashes, set-names}
-use Rattle.semantics.specs.State.{set-temps, set-members, set-stores, Flags, sets, State, set-pools, set-flags, raise, fail}
+use Rattle.semantics.specs.State as S
+use Rattle.semantics.specs.State.{Item, instr, toCleanup, toCheck, MemberRead, Pools, Flags, sets, State, set-pools, set-flags, raise, fail}
 
 -- the code of a piece, and the state after it
 pub record Lowered : Type 0 where
@@ -31,7 +31,7 @@ Lowering = Counts → Bool → ℕ → State → Lowered
 -- a Push that waits comes before anything that is no constant
 unfoldable pub flush : (ℕ → State → Lowered) → Bool → ℕ → State → Lowered
 flush f false n s = f n s
-flush f true n s = emit (instr push ∷ f (suc n) s .code) (f (suc n) s .state)
+flush f true n s = emit (instr I.push ∷ f (suc n) s .code) (f (suc n) s .state)
 
 abbrev pub put : Instruction → Lowering
 put i c = flush λ n s. emit (instr i ∷ []) s
@@ -45,8 +45,8 @@ failing r c = flush λ n s. emit [] (fail r s)
 
 -- 01, Modules, code.rs: "Const after Push becomes PushConst unless a label stands between": no rule puts a label behind a Push
 unfoldable pub putConst : ℕ → Lowering
-putConst k c false n s = emit (instr (plain (const k)) ∷ []) s
-putConst k c true n s = emit (instr (pushConst k) ∷ []) s
+putConst k c false n s = emit (instr (I.plain (I.const k)) ∷ []) s
+putConst k c true n s = emit (instr (I.pushConst k) ∷ []) s
 
 infixr 50 _⨾_
 abbrev pub _⨾_ : Lowering → Lowering → Lowering
@@ -65,7 +65,8 @@ pushed f g c b n s =
 abbrev pub flagged : (Flags → Flags) → Lowering → Lowering
 flagged m f c b n s = f c b n (set-flags (m (s .flags)) s)
 
--- 01, Modules, pools.rs: "consts by bits, posts by both bit patterns, names by hash (first text stays), members by (own, outermost) hashes. Stores and calls are never merged."
+-- 01, Modules, pools.rs: "consts by bits, posts by both bit patterns, names by hash (first text stays),
+-- members by (own, outermost) hashes. Stores and calls are never merged."
 abbrev pub itself : ℕ → ℕ
 itself n = n
 
@@ -83,13 +84,13 @@ interned pool v f c b n s =
     (set-pools (pool .set (intern (pool .key) (pool .dec) v (pool .get (s .pools))) (s .pools)) s)
 
 abbrev pub const-pool : Pool ℕ ℕ
-const-pool = record { get = λ p. p .consts; set = set-consts; key = itself; dec = ℕ-discrete }
+const-pool = record { get = λ p. p .consts; set = S.set-consts; key = itself; dec = ℕ-discrete }
 
 abbrev pub hash-pool : Pool ℕ ℕ
-hash-pool = record { get = λ p. p .hashes; set = set-hashes; key = itself; dec = ℕ-discrete }
+hash-pool = record { get = λ p. p .hashes; set = S.set-hashes; key = itself; dec = ℕ-discrete }
 
 abbrev pub slot-pool : Pool ℕ ℕ
-slot-pool = record { get = λ p. p .temps; set = set-temps; key = itself; dec = ℕ-discrete }
+slot-pool = record { get = λ p. p .temps; set = S.set-temps; key = itself; dec = ℕ-discrete }
 
 abbrev pub withConst : ℕ → (ℕ → Lowering) → Lowering
 withConst v f = interned const-pool v f
@@ -101,7 +102,7 @@ abbrev pub hashKey : Name → ℕ
 hashKey n = n .hash
 
 abbrev pub name-pool : Pool Name ℕ
-name-pool = record { get = λ p. p .names; set = set-names; key = hashKey; dec = ℕ-discrete }
+name-pool = record { get = λ p. p .names; set = S.set-names; key = hashKey; dec = ℕ-discrete }
 
 abbrev pub withName : Name → (ℕ → Lowering) → Lowering
 withName v f = interned name-pool v f
@@ -117,19 +118,19 @@ abbrev pub readKey : MemberRead → ℕ × ℕ
 readKey r = (r .own .hash, r .last .hash)
 
 abbrev pub member-pool : Pool MemberRead (ℕ × ℕ)
-member-pool = record { get = λ p. p .members; set = set-members; key = readKey; dec = pair-discrete }
+member-pool = record { get = λ p. p .members; set = S.set-members; key = readKey; dec = pair-discrete }
 
 abbrev pub withMember : MemberRead → (ℕ → Lowering) → Lowering
 withMember v f = interned member-pool v f
 
 abbrev pub withStore : MemberStore → (ℕ → Lowering) → Lowering
-withStore v f c b n s = f (length (s .pools .stores)) c b n (set-pools (set-stores (s .pools .stores ++ (v ∷ [])) (s .pools)) s)
+withStore v f c b n s = f (length (s .pools .stores)) c b n (set-pools (S.set-stores (s .pools .stores ++ (v ∷ [])) (s .pools)) s)
 
 abbrev pub postKey : Post → ℕ × ℕ
 postKey p = (p .scale, p .offset)
 
 abbrev pub post-pool : Pool Post (ℕ × ℕ)
-post-pool = record { get = λ p. p .posts; set = set-posts; key = postKey; dec = pair-discrete }
+post-pool = record { get = λ p. p .posts; set = S.set-posts; key = postKey; dec = pair-discrete }
 
 -- the identity is slot 0, and is not looked up
 unfoldable pub post-if : Bool → Post → (ℕ → Lowering) → Lowering
@@ -144,13 +145,13 @@ constant v = withConst v putConst
 
 -- a Post behind a branch, nothing for the identity
 abbrev pub postInstruction : Post → Lowering
-postInstruction v = cond (isIdentity v) nothing (withPost v λ p. put (plain (post p)))
+postInstruction v = cond (isIdentity v) nothing (withPost v λ p. put (I.plain (I.post p)))
 
 -- a guard whose target is what follows f
 abbrev pub guarded : Guard → (Counts → Counts) → Lowering → Lowering
 guarded g up f c = flush λ n s.
     let x = f (up c) false (suc n) (raise (up c) s) in
-    emit (instr (guard g (past (x .code) (suc n))) ∷ x .code) (x .state)
+    emit (instr (I.guard g (past (x .code) (suc n))) ∷ x .code) (x .state)
 
 -- i to g, f, j to what follows g, g
 abbrev pub fork : (ℕ → Instruction) → (ℕ → Instruction) → (Counts → Counts) → Lowering → Lowering → Lowering
@@ -163,24 +164,25 @@ fork i j up f g c = flush λ n s.
 -- the breaks and continues of a loop's body
 abbrev pub aim : ℕ → ℕ → Item → Item
 aim check-at cleanup-at (instr i) = instr i
-aim check-at cleanup-at toCleanup = instr (jump cleanup-at)
-aim check-at cleanup-at toCheck = instr (jump check-at)
+aim check-at cleanup-at toCleanup = instr (I.jump cleanup-at)
+aim check-at cleanup-at toCheck = instr (I.jump check-at)
 
 -- LoopBegin to the exit, the body, LoopCheck back to the body, LoopEnd
 abbrev pub looped : Lowering → Lowering
 looped f c = flush λ n s.
     let x = f (opens true c) false (suc n) (raise (opens true c) s) in
     let check-at = past (x .code) (suc n) in
-    emit (instr (loopBegin (suc (suc check-at))) ∷ (map (aim check-at (suc check-at)) (x .code) ++ (instr (loopCheck (suc n)) ∷ instr loopEnd ∷ []))) (x .state)
+    let body = map (aim check-at (suc check-at)) (x .code) ++ (instr (I.loopCheck (suc n)) ∷ instr I.loopEnd ∷ []) in
+    emit (instr (I.loopBegin (suc (suc check-at))) ∷ body) (x .state)
 
 -- EachBegin to the exit, EachNext to LoopEnd, the body, a Jump back to EachNext, LoopEnd
 abbrev pub eached : EachNext → Lowering → Lowering
 eached i f c = flush λ n s.
     let x = f (opens false c) false (suc (suc n)) (raise (opens false c) s) in
     let back = past (x .code) (suc (suc n)) in
-    let body = map (aim (suc n) (suc back)) (x .code) ++ (instr (jump (suc n)) ∷ instr loopEnd ∷ []) in
-    emit (instr (eachBegin (suc (suc back))) ∷ instr (eachNext i (suc back)) ∷ body) (x .state)
+    let body = map (aim (suc n) (suc back)) (x .code) ++ (instr (I.jump (suc n)) ∷ instr I.loopEnd ∷ []) in
+    emit (instr (I.eachBegin (suc (suc back))) ∷ instr (I.eachNext i (suc back)) ∷ body) (x .state)
 
 -- Break or Continue; 01, Walk: "With none open they log Halt."
 unfoldable pub jumps : Item → Bool → Lowering
-jumps i open-here c = flush λ n s. emit (cond open-here i (instr halt) ∷ []) s
+jumps i open-here c = flush λ n s. emit (cond open-here i (instr I.halt) ∷ []) s

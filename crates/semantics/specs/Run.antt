@@ -6,7 +6,8 @@ use lib.ListN.{length}
 use Rattle.numeric.specs.Post.{Post}
 use Rattle.program.specs.Program.{Counts, StoreRoot}
 
--- 01, Walk: "its name, sub, pool values in place of indices": an instruction with values; where it has a sub this comes first (of HostMath the function, then argc), where it has a post this comes last
+-- 01, Walk: "its name, sub, pool values in place of indices": an instruction with values; where it has a sub this comes first
+-- (of HostMath the function, then argc), where it has a post this comes last
 pub data Action : Type 0 where
   eConst eHash eResource : ℕ → Action
   eThis eNegate eNot eAndLast eOrLast ePost ePointerLeave eReturn eAddLast eMul eDiv eAndStep eOrStep ePointerEnter : Post → Action

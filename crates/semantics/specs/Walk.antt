@@ -13,8 +13,7 @@ use Rattle.program.specs.Program.{Counts, StoreRoot, rootVar, rootTemp, rootOth
 use Rattle.semantics.specs.Payloads.{asName, asHash, asMath, asQuery, floatOf, constOf, stringOf, resourceOf}
 use Rattle.semantics.specs.Payloads.{one, two, three, some, just, Path, path, Kinds, byKind}
 use Rattle.semantics.specs.Run as E
-use Rattle.semantics.specs.Run.{Action, Run, set-counts, note, note-argument, operand+, operands-, handler+, handler-}
-use Rattle.semantics.specs.Run.{same, opens, closes, count, draw, byEnd, byReturn, byHalt, byOut, Result, result, begin}
+use Rattle.semantics.specs.Run.{Action, Run, set-counts, note, note-argument, operand+, operands-, handler+, handler-, count, draw, Result, result}
 
 -- how a piece of the walk ends: it goes on, or a value is missing, Break, Continue, Return, Halt, or no outcome is left
 pub data Completion : Type 0 where
@@ -73,7 +72,8 @@ halts w = halted (note E.eHalt w)
 abbrev pub returns : Post → Walking
 returns p w = returned (note (E.eReturn p) w)
 
--- 01, Walk: "A missing value breaks off the first child of the innermost `??` that holds it there in the same segment ..; where no such `??` is, the walk goes on"
+-- 01, Walk: "A missing value breaks off the first child of the innermost `??` that holds it there in the same segment ..;
+-- where no such `??` is, the walk goes on"
 unfoldable pub misses : Bool → Walking
 misses held w = cond held (missing w) (normal w)
 
@@ -106,7 +106,7 @@ coalesce u v w = otherwise (w .counts) v (u (count handler+ w))
 
 -- 01, Walk: "Before they log, LoopCheck, EachNext and LoopEnd cut back to just after the loop's start", the counts c
 abbrev pub ends : Bool → Counts → Walking
-ends k c w = normal (set-counts (closes k c) (note E.eLoopEnd (set-counts c w)))
+ends k c w = normal (set-counts (E.closes k c) (note E.eLoopEnd (set-counts c w)))
 
 -- what follows a body;
 -- 01, Walk: "Break leaves the innermost loop open in its segment, with LoopEnd, and Continue goes on with that loop's LoopCheck or EachNext"
@@ -133,7 +133,7 @@ nexts a c body (suc n) w = draw (note a (set-counts c w)) out (λ w. round false
 
 -- 01, Walk: "a loop ends, with LoopEnd if it had been opened"
 abbrev pub begins : Action → Bool → (Counts → ℕ → Walking) → Walking
-begins a k inner w = draw (note a w) out (λ w. inner (opens k (w .counts)) (length (w .outcomes)) (count (opens k) w)) normal
+begins a k inner w = draw (note a w) out (λ w. inner (E.opens k (w .counts)) (length (w .outcomes)) (count (E.opens k) w)) normal
 
 abbrev pub looped : Walking → Walking
 looped body = begins E.eLoopBegin true (λ c. rounds c body)
@@ -185,7 +185,7 @@ junction step last a [] e = do
   logs last
 junction step last a (b ∷ xs) e = do
   a .expr e
-  guarded step same (junction step last b xs e)
+  guarded step E.same (junction step last b xs e)
 
 unfoldable pub addition : Post → Walkings → List Walkings → Scope → Walking
 addition p a [] e = do
@@ -326,7 +326,7 @@ module _ (S : Settings) where
   unfoldable pub pointed : Post → List Walkings → Scope → Walking
   pointed p xs e = two xs pass λ a b. do
     a .expr e
-    guarded (E.ePointerEnter (shown p)) same do
+    guarded (E.ePointerEnter (shown p)) E.same do
       b .expr e
       logs (E.ePointerLeave (shown p))
 
@@ -359,14 +359,14 @@ module _ (S : Settings) where
 
 -- missing, Break and Continue do not come out of a tree that no loop and no `??` is around
 unfoldable pub finish : Completion → Result
-finish (normal w) = result byEnd w
-finish (missing w) = result byEnd w
-finish (broke w) = result byEnd w
-finish (again w) = result byEnd w
-finish (returned w) = result byReturn w
-finish (halted w) = result byHalt w
-finish (out w) = result byOut w
+finish (normal w) = result E.byEnd w
+finish (missing w) = result E.byEnd w
+finish (broke w) = result E.byEnd w
+finish (again w) = result E.byEnd w
+finish (returned w) = result E.byReturn w
+finish (halted w) = result E.byHalt w
+finish (out w) = result E.byOut w
 
 -- 01, Walk: "The walk starts at the root .. with nothing open"
 unfoldable pub walked : Settings → Tree → List Bool → Result
-walked S t outcomes = finish (walk S t .expr inside (begin outcomes))
+walked S t outcomes = finish (walk S t .expr inside (E.begin outcomes))
