@@ -144,7 +144,7 @@ fn handler_left(d: Depth) -> Depth
 
 // The counters are lent, and changed where they are.
 impl Depth {
-    // One more operand on the stack.
+    // An operand is pushed.
     pub fn push_operand(&mut self)
         ensures { λ _. ⌜ now (self .exit) ≡ pushed (now (self .entry)) ⌝ }
     {

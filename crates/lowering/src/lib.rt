@@ -300,7 +300,7 @@ fn value(
 
 // ---- logic
 
-// a, Push, b: the operands of every binary instruction but the division.
+// Two operands with a Push between them, the one at `a` first.
 fn binary(tree: &[u8], a: usize, ws: &mut [u32], st: State, looping: bool, levels: u16) -> State
     ensures { λ r. ⌜ _≡_ {A = Held} (r, now (ws .exit)) (R.under (now (tree .entry)) levels (R.binary (now (tree .entry))) a looping (st, now (ws .entry))) ⌝ }
 {

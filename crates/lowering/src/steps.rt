@@ -73,7 +73,7 @@ pub(crate) fn flag(st: State, bits: u16) -> State
     s
 }
 
-// Leaves the float-only loop.
+// The program is not FLOAT_ONLY, and does not start on the float loop.
 pub(crate) fn not_float_only(st: State) -> State
     ensures { λ r. ⌜ r ≡ notFloatOnly st ⌝ }
 {
