@@ -15,7 +15,7 @@ use Rattle.program.specs.Image.{bit, wordOf, putInstruction, putText, putPost, 
 use Rattle.program.specs.Targets.{shiftOf}
 use Rattle.program.specs.Fits.{Below, Every, FitInstruction, FitPost, rootIndex, FitStore, FitCall, FitProgram}
 use Rattle.card.specs.declared.Sections.{Sections}
-use Rattle.card.specs.Layout.{OPEN, FINISHED, CONSTS, POSTS, HASHES, NAMES, TEMPS, MEMBERS, STORES, PATHS, CALLS, ARGUMENTS}
+use Rattle.workspace.specs.Layout.{OPEN, FINISHED, CONSTS, POSTS, HASHES, NAMES, TEMPS, MEMBERS, STORES, PATHS, CALLS, ARGUMENTS}
 use Rattle.card.specs.Written.{cat}
 use Rattle.card.specs.Image.{plusOf, wordEntry, halfEntry, instructionBytes, instructionEntry, dottedBytes, textBytes, hashBytes, nameBytes, nameEntry, memberBytes, memberEntry, storeBytes, storeAt, storeEntry, callBytes, callAt, callEntry, codeSection, constsSection, postsSection, hashesSection, namesSection, tempsSection, membersSection, storesSection, callsSection, depthsBytes, closingBytes, frontOf, backOf, bodyOf, imageOf}
 use Rattle.card.specs.Holds.{Each, InstructionIs, NameIs, MemberIs, rootKind, StoreIs, CallIs, Holds}

@@ -9,7 +9,7 @@ use lib.ListN.{length, getD, length-append}
 use Rattle.wire.specs.Bytes.{be8, be}
 use Rattle.wire.proofs.Numbers.{be-length}
 use Rattle.card.specs.declared.Sections.{Sections}
-use Rattle.card.specs.Layout.{TEMPS}
+use Rattle.workspace.specs.Layout.{TEMPS}
 use Rattle.card.specs.Written.{cat}
 use Rattle.card.specs.Image.{wordEntry, halfEntry, byteEntry, instructionBytes, instructionEntry, textBytes, dottedBytes, nameBytes, nameEntry, memberBytes, memberEntry, storeBytes, storeAt, storeEntry, callBytes, callAt, callEntry, codeSection, constsSection, postsSection, hashesSection, namesSection, tempsSection, membersSection, storesSection, callsSection, depthsBytes, closingBytes, frontOf, backOf, bodyOf}
 

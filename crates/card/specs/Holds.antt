@@ -10,7 +10,7 @@ use Rattle.program.specs.Program.{MemberEntry, StoreRoot, rootVar, rootTemp, ro
 use Rattle.program.specs.Image.{wordOf}
 use Rattle.program.specs.Fits.{rootIndex}
 use Rattle.program.specs.Targets.{shiftOf}
-use Rattle.card.specs.Layout.{OPEN, FINISHED, CONSTS, POSTS, HASHES, NAMES, TEMPS, MEMBERS, STORES, PATHS, CALLS, ARGUMENTS}
+use Rattle.workspace.specs.Layout.{OPEN, FINISHED, CONSTS, POSTS, HASHES, NAMES, TEMPS, MEMBERS, STORES, PATHS, CALLS, ARGUMENTS}
 use Rattle.card.specs.declared.Sections.{Sections}
 
 -- Q holds of every number and the entry there; d is any value

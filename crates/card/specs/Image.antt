@@ -8,7 +8,7 @@ use Rattle.wire.specs.Bytes.{be8, be}
 use Rattle.numeric.specs.Post.{identity}
 use Rattle.program.specs.Image.{bit}
 use Rattle.program.specs.Targets.{shiftOf}
-use Rattle.card.specs.Layout.{OPEN, FINISHED, CONSTS, POSTS, HASHES, NAMES, TEMPS, MEMBERS, STORES, PATHS, CALLS, ARGUMENTS, WORDS}
+use Rattle.workspace.specs.Layout.{OPEN, FINISHED, CONSTS, POSTS, HASHES, NAMES, TEMPS, MEMBERS, STORES, PATHS, CALLS, ARGUMENTS, WORDS}
 use Rattle.card.specs.Written.{cat}
 use Rattle.card.specs.declared.Sections.{Sections}
 use Rattle.card.specs.declared.Answer.{Answer}

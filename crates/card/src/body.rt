@@ -30,7 +30,7 @@ use crate::fields::put_half;
 use crate::fields::put_halves;
 use crate::fields::put_word;
 use crate::fields::put_words;
-use crate::layout;
+use workspace::layout;
 
 // Slot 0: scale 1.0, offset 0.0.
 const IDENTITY_SCALE: u32 = 0x3f80_0000;

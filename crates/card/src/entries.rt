@@ -26,8 +26,8 @@ use crate::fields::put_half;
 use crate::fields::put_word;
 use crate::fields::put_words;
 use crate::fields::word_at;
-use crate::layout;
 use program::targets;
+use workspace::layout;
 
 // Opcode, sub, A and B.
 fn put_instruction(w: u32, a: u32, base: u32, out: &mut [u8], at: usize) -> usize

@@ -3,7 +3,6 @@ mod body;
 mod bytes;
 mod entries;
 mod fields;
-pub mod layout;
 mod measure;
 
 ghost use mathlib.Core.Path.{_≡_};

@@ -6,7 +6,7 @@ ghost use Rattle.card.specs.Written.{cat};
 ghost use Rattle.card.specs.Image.{nameEntry, memberEntry, storeEntry, callEntry, bodyOf};
 use crate::Sections;
 use crate::fields::word_at;
-use crate::layout;
+use workspace::layout;
 
 // Bytes of an entry; a pair is a post or a hash.
 const INSTRUCTION: usize = 8;

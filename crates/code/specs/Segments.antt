@@ -6,18 +6,19 @@ use Prim.Native.Nat.{ℕ, zero, suc, _+_, _*_, _/_, _%_, _≤_, _<_}
 use lib.Dec.{eqb, leb}
 use lib.ListN.{getD, set}
 use lib.Seq.{sets}
+use Rattle.workspace.specs.Layout.{FINISHED, CODE-ROOM}
 use Rattle.program.specs.Targets.{shiftOf}
 
--- 2,048 instructions of two words from word 0 on; a full region is left as it is
+-- appended to the open code; a full region is left as it is
 unfoldable pub emitted : List ℕ → ℕ → ℕ → ℕ → List ℕ
-emitted words top front back = cond (leb (top + 1) 2048) (sets words (top * 2) (front ∷ back ∷ [])) words
+emitted words top front back = cond (leb (top + 1) CODE-ROOM) (sets words (top * 2) (front ∷ back ∷ [])) words
 
 unfoldable pub emittedTop : ℕ → ℕ
-emittedTop top = cond (leb (top + 1) 2048) (top + 1) top
+emittedTop top = cond (leb (top + 1) CODE-ROOM) (top + 1) top
 
 -- the second word of an instruction is its target
 unfoldable pub targeted : List ℕ → ℕ → ℕ → List ℕ
-targeted words at target = cond (leb (at + 1) 2048) (set words (at * 2 + 1) target) words
+targeted words at target = cond (leb (at + 1) CODE-ROOM) (set words (at * 2 + 1) target) words
 
 -- the first words of a Break and a Continue that wait for their loop, and of a Jump
 abbrev pub BREAK : ℕ
@@ -59,7 +60,7 @@ relocatedRange words from to (suc n) by = relocatedRange (relocatedOne words fro
 
 -- n instructions of the open code put behind the finished ones, where their segment starts
 unfoldable pub moved : List ℕ → ℕ → ℕ → ℕ → List ℕ
-moved words from n finished = cond (leb (finished + n) 2048) (relocatedRange words (from * 2) (4096 + finished * 2) n finished) words
+moved words from n finished = cond (leb (finished + n) CODE-ROOM) (relocatedRange words (from * 2) (FINISHED + finished * 2) n finished) words
 
 unfoldable pub movedCount : ℕ → ℕ → ℕ
-movedCount n finished = cond (leb (finished + n) 2048) (finished + n) finished
+movedCount n finished = cond (leb (finished + n) CODE-ROOM) (finished + n) finished

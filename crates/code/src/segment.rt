@@ -1,4 +1,4 @@
-// Instructions in the workspace: the open code from word 0 on, the finished argument code from word 4096 on, 2048 of two words each.
+// Instructions of two words in the workspace: the open code and the finished argument code.
 // An instruction's words: opcode * 2^24 + sub * 2^16 + B, then A. A full region is left as it is.
 ghost use mathlib.Core.Path.{_≡_};
 ghost use mathlib.Core.List.{[], _∷_};
@@ -7,6 +7,7 @@ ghost use lib.ListN.{length, getD, set};
 ghost use lib.Seq.{sets};
 ghost use Rattle.code.specs.Segments.{emitted, emittedTop, targeted, aimedOne, aimedRange, Idle, plus, relocatedOne, relocatedRange, moved, movedCount};
 use program::targets;
+use workspace::layout;
 
 // The first words of a Break and a Continue that wait for their loop (no opcodes of the card), and of a Jump.
 pub const BREAK: u32 = 0xfa00_0000;
@@ -14,11 +15,6 @@ pub const BREAK: u32 = 0xfa00_0000;
 pub const CONTINUE: u32 = 0xfb00_0000;
 
 pub const JUMP: u32 = 0x2000_0000;
-
-// The instructions that a region holds, and the word at which the finished ones begin.
-const ROOM: u16 = 2048;
-
-const FINISHED: usize = 4096;
 
 // A word of the workspace; past its end 0.
 fn word(ws: &[u32], at: usize) -> u32
@@ -53,7 +49,7 @@ fn wide(x: u16) -> usize
 pub fn emit(ws: &mut [u32], top: u16, front: u32, back: u32) -> u16
     ensures { λ r. ⌜ (r ≡ emittedTop top) × (now (ws .exit) ≡ emitted (now (ws .entry)) top front back) ⌝ }
 {
-    if top < ROOM {
+    if top < layout::CODE_ROOM {
         put_pair(ws, wide(top) * 2, front, back);
         return top + 1;
     }
@@ -64,7 +60,7 @@ pub fn emit(ws: &mut [u32], top: u16, front: u32, back: u32) -> u16
 pub fn set_target(ws: &mut [u32], at: u16, target: u32)
     ensures { λ _. ⌜ now (ws .exit) ≡ targeted (now (ws .entry)) at target ⌝ }
 {
-    if at < ROOM {
+    if at < layout::CODE_ROOM {
         put_word(ws, wide(at) * 2 + 1, target);
     }
 }
@@ -160,8 +156,8 @@ pub fn move_segment(ws: &mut [u32], from: u16, count: u16, finished: u16) -> u16
 {
     let n = wide(count);
     let d = wide(finished);
-    if d + n <= 2048 {
-        move_all(ws, wide(from) * 2, FINISHED + d * 2, n, d as u32);
+    if d + n <= layout::CODE_ROOM as usize {
+        move_all(ws, wide(from) * 2, layout::FINISHED + d * 2, n, d as u32);
         return (d + n) as u16;
     }
     finished

@@ -5,6 +5,7 @@ use mathlib.Core.List.{List}
 use Prim.Native.Nat.{ℕ, _+_, _*_}
 use lib.Dec.{eqb}
 use lib.ListN.{length, take, replicate}
+use Rattle.workspace.specs.Layout.{WORDS}
 use Rattle.semantics.specs.Answer as S
 use Rattle.card.specs.declared.Answer as C
 use Rattle.semantics.specs.Link.{refusalOf, programImage}
@@ -44,7 +45,7 @@ told a = record { number = a .number; length = cond (eqb (a .number) 0) (a .leng
 
 -- a cleared workspace
 unfoldable pub zeros : List ℕ
-zeros = replicate 16384 0
+zeros = replicate WORDS 0
 
 -- questions 2 to 9: the answer, and what is in the output
 pub record Asked (tree out out′ : List ℕ) (a : S.Answer) : Type 0 where

@@ -2,11 +2,13 @@
 use builder::State;
 use card::Sections;
 use program::Flags;
+use workspace::layout;
 ghost use mathlib.Core.Path.{_≡_};
 ghost use mathlib.Core.Bool.{cond, false};
 ghost use Prim.Native.Nat.{_≤_};
 ghost use lib.Bits.{bitAnd};
 ghost use lib.ListN.{length, replicate};
+ghost use Rattle.workspace.specs.Layout.{WORDS};
 ghost use Rattle.ast.specs.Questions.{questions};
 ghost use Rattle.representation.specs.Sections.{sectionsOf};
 ghost use Rattle.codegen.specs.Build.{shown, packed, told, zeros, Built, Packed, Asked};
@@ -21,10 +23,10 @@ pub enum Answer {
 pub fn build(tree: &[u8], workspace: &mut [u32], out: &mut [u8]) -> Answer
     ensures { λ r. ⌜ Built (now (tree .entry)) (now (workspace .entry)) (now (out .entry)) (now (workspace .exit)) (now (out .exit)) (shown r) ⌝ }
 {
-    if workspace.len() < card::layout::WORDS {
+    if workspace.len() < layout::WORDS {
         return Answer::Refused(1);
     }
-    inside(tree, &mut workspace[..card::layout::WORDS], out)
+    inside(tree, &mut workspace[..layout::WORDS], out)
 }
 
 // The same as one number: the refusal's number * 2^32 + the length.
@@ -47,7 +49,7 @@ fn pack(a: Answer) -> u64
 
 // Questions 2 to 9 in a workspace of 16,384 words, which is cleared afterwards.
 fn inside(tree: &[u8], ws: &mut [u32], out: &mut [u8]) -> Answer
-    requires { ⌜ length (now ws) ≡ 16384 ⌝ }
+    requires { ⌜ length (now ws) ≡ WORDS ⌝ }
     ensures { λ r. ⌜ Asked (now (tree .entry)) (now (out .entry)) (now (out .exit)) (shown r) × (now (ws .exit) ≡ zeros) ⌝ }
 {
     let a = asked(tree, ws, out);
@@ -68,7 +70,7 @@ fn clear(ws: &mut [u32])
 
 // Questions 2 to 9.
 fn asked(tree: &[u8], ws: &mut [u32], out: &mut [u8]) -> Answer
-    requires { ⌜ 16384 ≤ length (now ws) ⌝ }
+    requires { ⌜ WORDS ≤ length (now ws) ⌝ }
     ensures { λ r. ⌜ Asked (now (tree .entry)) (now (out .entry)) (now (out .exit)) (shown r) ⌝ }
 {
     let r = questions::check_image(tree);
@@ -80,7 +82,7 @@ fn asked(tree: &[u8], ws: &mut [u32], out: &mut [u8]) -> Answer
 
 // Questions 5 to 9, of an image that questions 2 to 4 let pass.
 fn generate(tree: &[u8], ws: &mut [u32], out: &mut [u8]) -> Answer
-    requires { ⌜ (16384 ≤ length (now ws)) × (questions (now tree) ≡ 0) ⌝ }
+    requires { ⌜ (WORDS ≤ length (now ws)) × (questions (now tree) ≡ 0) ⌝ }
     ensures { λ r. ⌜ Asked (now (tree .entry)) (now (out .entry)) (now (out .exit)) (shown r) ⌝ }
 {
     let s = lowering::lower(tree, ws);

@@ -6,7 +6,7 @@ use lib.Dec.{ltb}
 use lib.ListN.{set}
 use Rattle.numeric.specs.Post.{Post, isIdentity}
 use Rattle.ast.specs.Node.{scaleAt, offsetAt}
-use Rattle.card.specs.Layout.{STORES, PATHS, CALLS, ARGUMENTS}
+use Rattle.workspace.specs.Layout.{STORES, STORES-ROOM, PATHS, PATHS-ROOM, CALLS, CALLS-ROOM, ARGUMENTS, ARGUMENTS-ROOM}
 use Rattle.lowering.specs.Regions.{appendedCount, appendedWords}
 use Rattle.payload.specs.declared.NameRef.{NameRef}
 use Rattle.builder.specs.declared.State.{State}
@@ -101,8 +101,8 @@ unfoldable pub callBegun : ℕ → ℕ → ℕ → Held → Found
 callBegun index impl count h =
     let k = h .0 .calls in
     let first = h .0 .arguments in (
-      record { state = set-arguments (min (first + count) 65535) (set-calls (appendedCount k 384) (h .0)); index = k },
-      appendedWords k 384 (h .1) (CALLS + 4 * k) (index ∷ impl ∷ count ∷ first ∷ []),
+      record { state = set-arguments (min (first + count) 65535) (set-calls (appendedCount k CALLS-ROOM) (h .0)); index = k },
+      appendedWords k CALLS-ROOM (h .1) (CALLS + 4 * k) (index ∷ impl ∷ count ∷ first ∷ []),
     )
 
 -- the segment of the argument at that place is finished: its End, its start, and the caller's segment is open again; a Break or Continue that no loop has aimed leads to the start
@@ -110,16 +110,16 @@ unfoldable pub argumentClosed : ℕ → Bool → ℕ → Step
 argumentClosed base waiting slot h =
     let g = instr 48 0 0 0 h in
     let r = closed base waiting (g .0, aimed (g .0) 0 0 0 (g .1)) in
-    (r .0, cond (ltb slot 384) (set (r .1) (ARGUMENTS + slot) (g .0 .finished)) (r .1))
+    (r .0, cond (ltb slot ARGUMENTS-ROOM) (set (r .1) (ARGUMENTS + slot) (g .0 .finished)) (r .1))
 
 -- a hash of a path
 unfoldable pub pathAdded : ℕ → Step
 pathAdded v h =
     let n = h .0 .paths in
-    (set-paths (appendedCount n 256) (h .0), appendedWords n 256 (h .1) (PATHS + 2 * n) (high v ∷ low v ∷ []))
+    (set-paths (appendedCount n PATHS-ROOM) (h .0), appendedWords n PATHS-ROOM (h .1) (PATHS + 2 * n) (high v ∷ low v ∷ []))
 
 -- a store: its root's kind and index, the first entry of its path, their count
 unfoldable pub storeAdded : ℕ → ℕ → ℕ → ℕ → Held → Found
 storeAdded kind index first count h =
     let n = h .0 .stores in
-    (record { state = set-stores (appendedCount n 192) (h .0); index = n }, appendedWords n 192 (h .1) (STORES + 4 * n) (kind ∷ index ∷ first ∷ count ∷ []))
+    (record { state = set-stores (appendedCount n STORES-ROOM) (h .0); index = n }, appendedWords n STORES-ROOM (h .1) (STORES + 4 * n) (kind ∷ index ∷ first ∷ count ∷ []))

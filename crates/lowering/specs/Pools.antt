@@ -3,7 +3,7 @@ use mathlib.Core.Bool.{Bool, cond}
 use mathlib.Core.List.{List, [], _∷_}
 use Prim.Native.Nat.{ℕ, _+_, _-_, _*_, _/_, _%_, min}
 use lib.Bits.{bitOr}
-use Rattle.card.specs.Layout.{CONSTS, POSTS, HASHES, NAMES, TEMPS, MEMBERS}
+use Rattle.workspace.specs.Layout.{CONSTS, CONSTS-ROOM, POSTS, POSTS-ROOM, HASHES, HASHES-ROOM, NAMES, NAMES-ROOM, TEMPS, TEMPS-ROOM, MEMBERS, MEMBERS-ROOM}
 use Rattle.numeric.specs.Post.{Post, isIdentity}
 use Rattle.program.specs.Kinds.{USES-TEMPS}
 use Rattle.lowering.specs.Search.{wordHit, pairHit, nameHit, memberHit}
@@ -24,7 +24,7 @@ found count k n room words at entry = (record { state = count (internedCount k n
 
 -- 01, Modules, pools.rs: "consts by bits"
 unfoldable pub konst : ℕ → Held → Found
-konst bits h = found (λ n. set-consts n (h .0)) (internedIndex (wordHit (h .1) CONSTS bits) (h .0 .consts)) (h .0 .consts) 384 (h .1) (CONSTS + h .0 .consts) (bits ∷ [])
+konst bits h = found (λ n. set-consts n (h .0)) (internedIndex (wordHit (h .1) CONSTS bits) (h .0 .consts)) (h .0 .consts) CONSTS-ROOM (h .1) (CONSTS + h .0 .consts) (bits ∷ [])
 
 -- a hash is two words, the high one first
 abbrev pub high : ℕ → ℕ
@@ -34,7 +34,7 @@ abbrev pub low : ℕ → ℕ
 low v = v % 4294967296
 
 unfoldable pub hash : ℕ → Held → Found
-hash v h = found (λ n. set-hashes n (h .0)) (internedIndex (pairHit (h .1) HASHES (high v) (low v)) (h .0 .hashes)) (h .0 .hashes) 384 (h .1) (HASHES + 2 * h .0 .hashes) (high v ∷ low v ∷ [])
+hash v h = found (λ n. set-hashes n (h .0)) (internedIndex (pairHit (h .1) HASHES (high v) (low v)) (h .0 .hashes)) (h .0 .hashes) HASHES-ROOM (h .1) (HASHES + 2 * h .0 .hashes) (high v ∷ low v ∷ [])
 
 -- a text is kept as the place of its length byte in the tree image
 abbrev pub textPlace : ℕ → ℕ
@@ -42,15 +42,15 @@ textPlace at = (at - 1) % 4294967296
 
 -- "names by hash (first text stays)"
 unfoldable pub name : NameRef → Held → Found
-name v h = found (λ n. set-names n (h .0)) (internedIndex (nameHit (h .1) NAMES (high (v .hash)) (low (v .hash))) (h .0 .names)) (h .0 .names) 256 (h .1) (NAMES + 3 * h .0 .names) (high (v .hash) ∷ low (v .hash) ∷ textPlace (v .at) ∷ [])
+name v h = found (λ n. set-names n (h .0)) (internedIndex (nameHit (h .1) NAMES (high (v .hash)) (low (v .hash))) (h .0 .names)) (h .0 .names) NAMES-ROOM (h .1) (NAMES + 3 * h .0 .names) (high (v .hash) ∷ low (v .hash) ∷ textPlace (v .at) ∷ [])
 
 -- "members by (own, outermost) hashes"
 unfoldable pub member : NameRef → NameRef → Held → Found
-member v l h = found (λ n. set-members n (h .0)) (internedIndex (memberHit (h .1) MEMBERS (high (v .hash)) (low (v .hash)) (high (l .hash)) (low (l .hash))) (h .0 .members)) (h .0 .members) 256 (h .1) (MEMBERS + 6 * h .0 .members) (high (v .hash) ∷ low (v .hash) ∷ high (l .hash) ∷ low (l .hash) ∷ textPlace (v .at) ∷ textPlace (l .at) ∷ [])
+member v l h = found (λ n. set-members n (h .0)) (internedIndex (memberHit (h .1) MEMBERS (high (v .hash)) (low (v .hash)) (high (l .hash)) (low (l .hash))) (h .0 .members)) (h .0 .members) MEMBERS-ROOM (h .1) (MEMBERS + 6 * h .0 .members) (high (v .hash) ∷ low (v .hash) ∷ high (l .hash) ∷ low (l .hash) ∷ textPlace (v .at) ∷ textPlace (l .at) ∷ [])
 
 -- a temp slot is its name's index
 unfoldable pub slot : ℕ → Held → Found
-slot named h = found (λ n. set-temps n (h .0)) (internedIndex (wordHit (h .1) TEMPS named) (h .0 .temps)) (h .0 .temps) 256 (h .1) (TEMPS + h .0 .temps) (named ∷ [])
+slot named h = found (λ n. set-temps n (h .0)) (internedIndex (wordHit (h .1) TEMPS named) (h .0 .temps)) (h .0 .temps) TEMPS-ROOM (h .1) (TEMPS + h .0 .temps) (named ∷ [])
 
 -- a temp goes to names first, then to temps; USES_TEMPS
 unfoldable pub temp : NameRef → Held → Found
@@ -65,7 +65,7 @@ post v h =
     let n = h .0 .posts in
     let k = internedIndex (pairHit (h .1) POSTS (v .scale) (v .offset)) n in
     cond (isIdentity v) (record { state = h .0; index = 0 }, h .1)
-    (record { state = set-posts (internedCount k n 384) (h .0); index = after k }, internedWords k n 384 (h .1) (POSTS + 2 * n) (v .scale ∷ v .offset ∷ []))
+    (record { state = set-posts (internedCount k n POSTS-ROOM) (h .0); index = after k }, internedWords k n POSTS-ROOM (h .1) (POSTS + 2 * n) (v .scale ∷ v .offset ∷ []))
 
 unfoldable pub constant : ℕ → Held → Held
 constant bits h = let e = konst bits h in putConst (e .0 .index) (e .0 .state, e .1)

@@ -17,6 +17,7 @@ use program::Flags;
 use program::PostIdx;
 use program::StoreIdx;
 use program::opcodes;
+use workspace::layout;
 ghost use mathlib.Core.Path.{_≡_};
 ghost use mathlib.Core.List.{List};
 ghost use Rattle.builder.specs.Steps.{Held};
@@ -91,7 +92,7 @@ fn add_path(ws: &mut [u32], st: State, hash: u64) -> State
     let n = pools::append_pair(
         ws,
         regions::PATHS,
-        regions::PATHS_ROOM,
+        layout::PATHS_ROOM,
         st.paths,
         (hash / 4294967296) as u32,
         (hash % 4294967296) as u32,
@@ -126,7 +127,7 @@ fn add_store(ws: &mut [u32], st: State, kind: u32, index: u16, first: u16, count
     let n = pools::append_four(
         ws,
         regions::STORES,
-        regions::STORES_ROOM,
+        layout::STORES_ROOM,
         k,
         kind,
         index as u32,

@@ -7,12 +7,14 @@ use builder::State;
 use builder::segments;
 use program::CallIdx;
 use program::opcodes;
+use workspace::layout;
 ghost use mathlib.Core.Path.{_≡_};
 ghost use mathlib.Core.List.{List};
 ghost use Prim.Native.Nat.{_+_, min};
 ghost use lib.Dec.{ltb};
 ghost use lib.ListN.{set};
 ghost use mathlib.Core.Bool.{cond};
+ghost use Rattle.workspace.specs.Layout.{ARGUMENTS, ARGUMENTS-ROOM};
 ghost use Rattle.builder.specs.Steps.{Held};
 ghost use Rattle.lowering.specs.Pools.{Found};
 ghost use Rattle.lowering.specs.Kinds.{ofCall};
@@ -42,7 +44,7 @@ pub(crate) fn begin_call(
     let n = pools::append_four(
         ws,
         regions::CALLS,
-        regions::CALLS_ROOM,
+        layout::CALLS_ROOM,
         k,
         index as u32,
         impl_idx as u32,
@@ -59,10 +61,10 @@ pub(crate) fn begin_call(
 }
 
 fn put_start(ws: &mut [u32], slot: u16, start: u16)
-    ensures { λ _. ⌜ now (ws .exit) ≡ cond (ltb slot 384) (set (now (ws .entry)) (15488 + slot) start) (now (ws .entry)) ⌝ }
+    ensures { λ _. ⌜ now (ws .exit) ≡ cond (ltb slot ARGUMENTS-ROOM) (set (now (ws .entry)) (ARGUMENTS + slot) start) (now (ws .entry)) ⌝ }
 {
-    if slot < regions::ARGUMENTS_ROOM {
-        let at = regions::ARGUMENTS + (slot as usize);
+    if slot < layout::ARGUMENTS_ROOM {
+        let at = layout::ARGUMENTS + (slot as usize);
         if at < ws.len() {
             ws[at] = start as u32;
         }

@@ -13,6 +13,7 @@ use program::NameIdx;
 use program::PostIdx;
 use program::StoreIdx;
 use program::TempIdx;
+use workspace::layout;
 ghost use mathlib.Core.Path.{_≡_};
 ghost use mathlib.Core.List.{List};
 ghost use Prim.Native.Nat.{_/_, _%_};
@@ -71,7 +72,7 @@ pub struct PostEntry {
 pub(crate) fn konst(ws: &mut [u32], st: State, bits: u32) -> ConstEntry
     ensures { λ r. ⌜ _≡_ {A = Found} (ofConst r, now (ws .exit)) (konst bits (st, now (ws .entry))) ⌝ }
 {
-    let i = pools::intern_word(ws, regions::CONSTS, regions::CONSTS_ROOM, st.consts, bits);
+    let i = pools::intern_word(ws, regions::CONSTS, layout::CONSTS_ROOM, st.consts, bits);
     let mut s = st;
     s.consts = i.count;
     ConstEntry {
@@ -98,7 +99,7 @@ pub(crate) fn hash(ws: &mut [u32], st: State, h: u64) -> HashEntry
     let i = pools::intern_pair(
         ws,
         regions::HASHES,
-        regions::HASHES_ROOM,
+        layout::HASHES_ROOM,
         st.hashes,
         high(h),
         low(h),
@@ -129,7 +130,7 @@ pub(crate) fn name(ws: &mut [u32], st: State, n: NameRef) -> NameEntry
     let i = pools::intern_name(
         ws,
         regions::NAMES,
-        regions::NAMES_ROOM,
+        layout::NAMES_ROOM,
         st.names,
         high(h),
         low(h),
@@ -152,7 +153,7 @@ pub(crate) fn member(ws: &mut [u32], st: State, own: NameRef, last: NameRef) -> 
     let i = pools::intern_member(
         ws,
         regions::MEMBERS,
-        regions::MEMBERS_ROOM,
+        layout::MEMBERS_ROOM,
         st.members,
         high(h),
         low(h),
@@ -182,7 +183,7 @@ fn slot(ws: &mut [u32], st: State, named: NameIdx) -> TempEntry
     let i = pools::intern_word(
         ws,
         regions::TEMPS,
-        regions::TEMPS_ROOM,
+        layout::TEMPS_ROOM,
         st.temps,
         wide(named.0),
     );
@@ -218,7 +219,7 @@ pub(crate) fn post_of(ws: &mut [u32], st: State, p: PostOp, bits: PostBits) -> P
     let i = pools::intern_pair(
         ws,
         regions::POSTS,
-        regions::POSTS_ROOM,
+        layout::POSTS_ROOM,
         st.posts,
         bits.scale,
         bits.offset,

@@ -19,7 +19,7 @@ use Rattle.semantics.specs.Lowering.{Lowerings, Arguments, arguments, close-seg
 use Rattle.semantics.specs.Link.{offsetsOf}
 use Rattle.payload.specs.declared.NameRef.{NameRef}
 use Rattle.payload.specs.Payloads.{named}
-use Rattle.card.specs.Layout.{OPEN, CALLS, ARGUMENTS}
+use Rattle.workspace.specs.Layout.{OPEN, CALLS, ARGUMENTS}
 use Rattle.lowering.specs.Pools.{after}
 use Rattle.builder.specs.Segments as T
 use Rattle.builder.specs.Steps.{Held}

@@ -16,7 +16,7 @@ use Rattle.semantics.specs.State.{Item, CallInfo, State, set-pools, set-calls}
 use Rattle.semantics.specs.Lowering.{fill}
 use Rattle.semantics.specs.Link.{offsetsOf}
 use Rattle.lowering.specs.Regions.{appendedCount, appendedWords}
-use Rattle.card.specs.Layout.{OPEN, FINISHED, CONSTS, POSTS, HASHES, NAMES, TEMPS, MEMBERS, STORES, PATHS, CALLS, ARGUMENTS}
+use Rattle.workspace.specs.Layout.{OPEN, FINISHED, CONSTS, POSTS, HASHES, NAMES, TEMPS, MEMBERS, STORES, PATHS, CALLS, ARGUMENTS}
 use Rattle.builder.specs.Steps.{Held}
 use Rattle.lowering.specs.Parts as L
 use Rattle.lowering.specs.Steps as Y

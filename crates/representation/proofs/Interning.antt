@@ -16,7 +16,7 @@ use Rattle.payload.specs.Payloads.{named}
 use Rattle.semantics.specs.Positions.{slot, intern, pair-discrete}
 use Rattle.semantics.specs.State.{MemberRead, Pools, State, set-pools, set-consts, set-posts, set-hashes, set-names, set-temps, set-members, set-flags, sets}
 use Rattle.semantics.specs.Pieces.{Lowering, itself, hashKey, readKey, postKey, post-if, withConst, withHash, withName, withTemp, withMember, withPost}
-use Rattle.card.specs.Layout.{CONSTS, POSTS, HASHES, NAMES, TEMPS, MEMBERS, STORES}
+use Rattle.workspace.specs.Layout.{CONSTS, POSTS, HASHES, NAMES, TEMPS, MEMBERS, STORES}
 use Rattle.card.specs.Holds.{PostIs, HashIs, NameIs}
 use Rattle.lowering.specs.Search.{wordHit, pairHit, nameHit, memberHit}
 use Rattle.lowering.specs.Regions.{internedIndex}

@@ -13,7 +13,7 @@ use Rattle.semantics.specs.State.{Item, CallInfo, MemberRead, Pools, set-segmen
 use Rattle.semantics.specs.Link.{place-segments}
 use Rattle.semantics.proofs.Costs.{weigh}
 use Rattle.semantics.proofs.Sizes.{weigh-length}
-use Rattle.card.specs.Layout.{OPEN, FINISHED, CONSTS, POSTS, HASHES, NAMES, TEMPS, MEMBERS, STORES, PATHS, CALLS, ARGUMENTS}
+use Rattle.workspace.specs.Layout.{OPEN, FINISHED, CONSTS, POSTS, HASHES, NAMES, TEMPS, MEMBERS, STORES, PATHS, CALLS, ARGUMENTS}
 use Rattle.card.specs.Holds.{PostIs, HashIs, HashesAre, TextIs, NameIs, MemberIs, StoreIs}
 use Rattle.representation.proofs.Rows.{Rows, Local, Agree, Apart}
 use Rattle.representation.proofs.Represents.{ItemAt, InstructionAt, WordAt, MemberAt, StoreAt, places, firstPlace, Filled, CallsFrom, OpenCall, OpenCallAt, OpenCalls, Abs, Fits, finishedCode, Table, Tables}

@@ -18,7 +18,7 @@ use Rattle.semantics.proofs.Sizes.{weigh-length}
 use Rattle.semantics.specs.State.{Item, instr, toCleanup, toCheck, Pools, State, fail}
 use Rattle.semantics.specs.Pieces.{Lowered, emit, Lowering, flush, put, putConst, nothing, failing, jumps}
 use Rattle.code.specs.Segments as G
-use Rattle.card.specs.Layout.{OPEN, FINISHED, CONSTS, POSTS, HASHES, NAMES, TEMPS, MEMBERS, STORES, PATHS, CALLS, ARGUMENTS}
+use Rattle.workspace.specs.Layout.{OPEN, FINISHED, CONSTS, POSTS, HASHES, NAMES, TEMPS, MEMBERS, STORES, PATHS, CALLS, ARGUMENTS}
 use Rattle.builder.specs.declared.State as B
 use Rattle.builder.specs.Fields.{set-top, set-waiting}
 use Rattle.builder.specs.Steps as W

@@ -20,7 +20,7 @@ use Rattle.semantics.specs.Pieces.{Lowering, put, withPost, flagged}
 use Rattle.semantics.specs.Lowering.{Lowerings, Arguments, arguments, called, fill, query, isEmpty}
 use Rattle.semantics.specs.Link.{offsetsOf}
 use Rattle.payload.specs.declared.NameRef.{NameRef}
-use Rattle.card.specs.Layout.{CALLS, ARGUMENTS}
+use Rattle.workspace.specs.Layout.{CALLS, ARGUMENTS}
 use Rattle.builder.specs.declared.State as B
 use Rattle.builder.specs.Steps.{Held}
 use Rattle.lowering.specs.Parts as L

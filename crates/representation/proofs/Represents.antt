@@ -16,7 +16,7 @@ use Rattle.semantics.specs.State.{Item, instr, toCleanup, toCheck, CallInfo, Me
 use Rattle.semantics.specs.Pieces.{Lowered, Lowering}
 use Rattle.semantics.specs.Link.{place-segments, memberEntry, offsetsOf}
 use Rattle.code.specs.Segments.{BREAK, CONTINUE}
-use Rattle.card.specs.Layout.{OPEN, FINISHED, CONSTS, POSTS, HASHES, NAMES, TEMPS, MEMBERS, STORES, PATHS, CALLS, ARGUMENTS}
+use Rattle.workspace.specs.Layout.{OPEN, FINISHED, CONSTS, POSTS, HASHES, NAMES, TEMPS, MEMBERS, STORES, PATHS, CALLS, ARGUMENTS}
 use Rattle.card.specs.Holds.{PostIs, HashIs, NameIs, MemberIs, StoreIs}
 use Rattle.builder.specs.Steps.{Held}
 use Rattle.lowering.specs.Pools.{Found}

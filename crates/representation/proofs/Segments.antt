@@ -22,7 +22,7 @@ use Rattle.semantics.specs.Pieces.{aim}
 use Rattle.semantics.specs.Lowering.{pasts}
 use Rattle.semantics.specs.Link.{relocate, settle, place-segments}
 use Rattle.code.specs.Segments as G
-use Rattle.card.specs.Layout.{OPEN, FINISHED, CONSTS}
+use Rattle.workspace.specs.Layout.{OPEN, FINISHED, CONSTS}
 use Rattle.builder.specs.Segments as T
 use Rattle.builder.specs.Fields.{set-top, set-base, set-finished, set-waiting}
 use Rattle.builder.specs.Steps.{Held}

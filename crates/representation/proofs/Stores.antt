@@ -31,7 +31,7 @@ use Rattle.semantics.specs.Pieces.{Lowering, put, failing, withName, withTemp, 
 use Rattle.semantics.specs.Lowering as D
 use Rattle.semantics.proofs.Costs.{weigh}
 use Rattle.semantics.proofs.Sizes.{weigh-length}
-use Rattle.card.specs.Layout.{STORES, PATHS, CALLS}
+use Rattle.workspace.specs.Layout.{STORES, PATHS, CALLS}
 use Rattle.card.specs.Holds.{HashIs, HashesAre, rootKind}
 use Rattle.lowering.specs.Regions.{appendedCount, appendedWords}
 use Rattle.builder.specs.Steps as W

@@ -19,7 +19,7 @@ use Rattle.semantics.proofs.Sizes.{weigh-length}
 use Rattle.semantics.specs.State.{Item, instr, toCleanup, toCheck, State}
 use Rattle.semantics.specs.Pieces.{Lowering, aim}
 use Rattle.code.specs.Segments as G
-use Rattle.card.specs.Layout.{OPEN}
+use Rattle.workspace.specs.Layout.{OPEN}
 use Rattle.builder.specs.declared.State as B
 use Rattle.builder.specs.Segments as T
 use Rattle.builder.specs.Steps as W

@@ -32,7 +32,7 @@ use Rattle.semantics.specs.Regions.{argumentStarts}
 use Rattle.semantics.proofs.Regions.{regions}
 use Rattle.semantics.proofs.Fitting.{program-fits}
 use Rattle.semantics.proofs.AcceptedTrees.{parsed-fits, parsed-short}
-use Rattle.card.specs.Layout.{OPEN, FINISHED, CONSTS, POSTS, HASHES, NAMES, TEMPS, MEMBERS, STORES, CALLS, ARGUMENTS}
+use Rattle.workspace.specs.Layout.{OPEN, FINISHED, CONSTS, POSTS, HASHES, NAMES, TEMPS, MEMBERS, STORES, CALLS, ARGUMENTS}
 use Rattle.card.specs.Holds.{Each, InstructionIs, WordsAre, NameIs, MemberIs, StoreIs, CallIs, Holds}
 use Rattle.builder.specs.Segments as T
 use Rattle.builder.specs.Steps.{Held}

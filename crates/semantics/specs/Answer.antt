@@ -4,6 +4,7 @@ use mathlib.Core.List.{List, _++_}
 use Prim.Native.Nat.{ℕ, zero, suc}
 use lib.Dec.{leb}
 use lib.ListN.{length, drop, replicate}
+use Rattle.workspace.specs.Layout.{WORDS}
 use Rattle.semantics.specs.Link.{refusalOf, programImage}
 
 -- 01, Nine questions: "A refusal returns its number and length 0. Acceptance returns 0 and the length"
@@ -18,7 +19,7 @@ answerFrom (suc r) n room = record { number = suc r; length = 0 }
 
 -- 01, Nine questions, 1: "Has the workspace 16,384 words or more? No: 1."; by the tree image, the workspace's length and the output's
 unfoldable pub answer : List ℕ → ℕ → ℕ → Answer
-answer s words room = cond (leb 16384 words) (answerFrom (refusalOf s) (length (programImage s)) room) (record { number = 1; length = 0 })
+answer s words room = cond (leb WORDS words) (answerFrom (refusalOf s) (length (programImage s)) room) (record { number = 1; length = 0 })
 
 -- 01, Nine questions: "output beyond it is unchanged"; a refusal changes no byte
 unfoldable pub written : ℕ → List ℕ → List ℕ → List ℕ
@@ -30,4 +31,4 @@ outputAfter s words out = written (answer s words (length out) .number) (program
 
 -- 01, Nine questions: "The workspace's first 16,384 words are zero afterwards, and later words unchanged; after 1 all are unchanged."
 unfoldable pub workspaceAfter : List ℕ → List ℕ
-workspaceAfter words = cond (leb 16384 (length words)) (replicate 16384 0 ++ drop 16384 words) words
+workspaceAfter words = cond (leb WORDS (length words)) (replicate WORDS 0 ++ drop WORDS words) words

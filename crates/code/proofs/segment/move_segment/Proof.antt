@@ -25,6 +25,9 @@ wide-requires-2 c κs = search needs
 add-if1 : tie.Need-add-if1
 add-if1 c = search needs
 
+cast-if1 : tie.Need-cast-if1
+cast-if1 c = search needs
+
 -- src/segment.rt:142:22
 wide-requires-3 : tie.Need-wide-requires-3
 wide-requires-3 c κs = search needs
@@ -78,6 +81,7 @@ move-segment-spec =
     wide-requires
     wide-requires-2
     add-if1
+    cast-if1
     wide-requires-3
     mul-move-all
     mul-move-all-2
