@@ -1,4 +1,6 @@
 pub mod Header
+pub mod Operators
+pub mod NameKinds
 pub mod Rules
 pub mod Tree
 pub mod Node

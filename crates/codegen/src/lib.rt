@@ -10,6 +10,7 @@ ghost use lib.Bits.{bitAnd};
 ghost use lib.ListN.{length, replicate};
 ghost use Rattle.workspace.specs.Layout.{WORDS};
 ghost use Rattle.ast.specs.Questions.{questions};
+ghost use Rattle.program.specs.Kinds.{NOT-FLOAT};
 ghost use Rattle.representation.specs.Sections.{sectionsOf};
 ghost use Rattle.codegen.specs.Build.{shown, packed, told, zeros, Built, Packed, Asked};
 
@@ -131,7 +132,7 @@ fn sections(s: State) -> Sections
 
 // A program that is too deep for the float loop is not FLOAT_ONLY.
 fn final_flags(flags: u16, fits: bool) -> u16
-    ensures { λ r. ⌜ r ≡ cond fits flags (bitAnd flags 2046) ⌝ }
+    ensures { λ r. ⌜ r ≡ cond fits flags (bitAnd flags NOT-FLOAT) ⌝ }
 {
     if fits {
         return flags;

@@ -1,5 +1,5 @@
 -- The float loop's limits, and the flags' bits. Definitions only.
-use Prim.Native.Nat.{ℕ}
+use Prim.Native.Nat.{ℕ, _+_}
 use mathlib.Core.Bool.{Bool, _&&_}
 use lib.Dec.{leb}
 
@@ -41,3 +41,11 @@ USES-RANDOM = 512
 
 abbrev pub USES-RANDOM-OP : ℕ
 USES-RANDOM-OP = 1024
+
+-- both bits of a volatile host function
+abbrev pub RANDOM : ℕ
+RANDOM = USES-RANDOM + USES-RANDOM-OP
+
+-- all bits but FLOAT_ONLY
+abbrev pub NOT-FLOAT : ℕ
+NOT-FLOAT = 2046

@@ -1,7 +1,7 @@
 -- The card's sections of a builder's state: how much of each region is used, and the closing fields. Definitions only.
 use mathlib.Core.Bool.{Bool, false, cond}
 use lib.Bits.{bitAnd}
-use Rattle.program.specs.Kinds.{inFloatLoop}
+use Rattle.program.specs.Kinds.{inFloatLoop, NOT-FLOAT}
 use Rattle.card.specs.declared.Sections.{Sections}
 use Rattle.builder.specs.declared.State.{State}
 
@@ -24,6 +24,6 @@ sectionsOf s = record {
   stack = s .depth .max .stack;
   loops = s .depth .max .loops;
   handlers = s .depth .max .handlers;
-  flags = cond (inLoop s) (s .flags) (bitAnd (s .flags) 2046);
+  flags = cond (inLoop s) (s .flags) (bitAnd (s .flags) NOT-FLOAT);
   «float_loop» = cond (inLoop s) (s .«float_loop») false;
 }

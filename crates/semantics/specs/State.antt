@@ -6,7 +6,7 @@ use Prim.Native.Nat.{ℕ, zero, suc, max}
 use lib.Bits.{bitAnd, bitOr}
 use Rattle.numeric.specs.Post.{Post}
 use Rattle.ast.specs.Tree.{Name}
-use Rattle.program.specs.Kinds.{FLOAT-ONLY, USES-QUERIES}
+use Rattle.program.specs.Kinds.{FLOAT-ONLY, USES-QUERIES, NOT-FLOAT}
 use Rattle.program.specs.Instruction.{Instruction}
 use Rattle.program.specs.Program.{Counts, MemberStore}
 use Rattle.semantics.specs.Run.{nothing-open}
@@ -174,11 +174,11 @@ sets k f = record { bits = bitOr (f .bits) k; floatLoop = f .floatLoop }
 
 -- all bits but FLOAT_ONLY stay
 unfoldable pub notFloatOnly : Flags → Flags
-notFloatOnly f = record { bits = bitAnd (f .bits) 2046; floatLoop = false }
+notFloatOnly f = record { bits = bitAnd (f .bits) NOT-FLOAT; floatLoop = false }
 
 -- 01, Bench pieces, M4 and M5: a query clears FLOAT_ONLY, and float_loop too if it has arguments
 unfoldable pub queried : Bool → Flags → Flags
-queried alone f = record { bits = bitOr (bitAnd (f .bits) 2046) USES-QUERIES; floatLoop = cond alone (f .floatLoop) false }
+queried alone f = record { bits = bitOr (bitAnd (f .bits) NOT-FLOAT) USES-QUERIES; floatLoop = cond alone (f .floatLoop) false }
 
 pub record State : Type 0 where
   pub pools : Pools
