@@ -6,6 +6,7 @@ use lib.Dec.{ltb}
 use lib.ListN.{set}
 use Rattle.numeric.specs.Post.{Post, isIdentity}
 use Rattle.ast.specs.Node.{scaleAt, offsetAt}
+use Rattle.program.specs.Opcodes as O
 use Rattle.workspace.specs.Layout.{STORES, STORES-ROOM, PATHS, PATHS-ROOM, CALLS, CALLS-ROOM, ARGUMENTS, ARGUMENTS-ROOM}
 use Rattle.lowering.specs.Regions.{appendedCount, appendedWords}
 use Rattle.payload.specs.declared.NameRef.{NameRef}
@@ -19,6 +20,18 @@ use Rattle.lowering.specs.Steps.{set-stores, set-paths, set-calls, set-a
 
 abbrev pub Step : Type 0
 Step = Held → Held
+
+-- what `do` is read by: one step after another, and an index handed to the rest
+infixr 50 _>>_
+abbrev pub _>>_ : Step → Step → Step
+_>>_ f g h = g (f h)
+
+abbrev pub _>>=_ : ((ℕ → Step) → Step) → (ℕ → Step) → Step
+_>>=_ indexed rest = indexed rest
+
+-- the one step or the other
+abbrev pub either : Bool → Step → Step → Step
+either b f g h = cond b (f h) (g h)
 
 -- a step beside the words
 abbrev pub still : (State → State) → Step
@@ -63,7 +76,7 @@ putPost t p op sub a = withPost t p λ q. instr op sub a q
 
 -- a Post behind a branch, nothing for the identity
 unfoldable pub postInstr : List ℕ → ℕ → Step
-postInstr t p h = cond (isIdentity (postBits t p)) (flushed h) (putPost t p 34 0 0 h)
+postInstr t p = either (isIdentity (postBits t p)) flushed (putPost t p O.POST 0 0)
 
 -- the place of the next instruction, counted from the segment's start
 abbrev pub place : State → ℕ
@@ -76,25 +89,41 @@ guard op sub b h =
     let r = emitted (front op sub b) 0 g in
     (record { state = r .0; index = place (g .0) }, r .1)
 
+abbrev pub withGuard : ℕ → ℕ → ℕ → (ℕ → Step) → Step
+withGuard op sub b f h = going (guard op sub b h) f
+
 -- its target is the next instruction
 unfoldable pub land : ℕ → Step
 land at h = (h .0, targeted (h .0) at (place (h .0)) (h .1))
 
 -- Break and Continue wait for their loop; Halt where none is open
 unfoldable pub jumpOut : ℕ → Bool → Step
-jumpOut waits looping h = cond looping (put waits 0 h) (instr 47 0 0 0 h)
+jumpOut waits looping = either looping (put waits 0) (instr O.HALT 0 0 0)
+
+-- the Breaks and Continues from a place of the open segment on lead to these places of it
+abbrev pub resolveBreaks : ℕ → ℕ → ℕ → Step
+resolveBreaks at check cleanup h = (h .0, aimed (h .0) at check cleanup (h .1))
 
 -- behind a loop's body: its Breaks and Continues, LoopCheck, LoopEnd, and the target of LoopBegin
 unfoldable pub loopClosed : ℕ → Step
 loopClosed at h =
     let check = place (h .0) in
-    land at (instr 42 0 0 0 (instr 41 0 (at + 1) 0 (h .0, aimed (h .0) (after at) check (check + 1) (h .1))))
+    (do
+      resolveBreaks (after at) check (check + 1)
+      instr O.LOOP-CHECK 0 (at + 1) 0
+      instr O.LOOP-END 0 0 0
+      land at) h
 
 -- behind a ForEach's body: its Breaks and Continues, the Jump back, the target of EachNext, LoopEnd, and the target of EachBegin
 unfoldable pub eachClosed : ℕ → ℕ → Step
 eachClosed begin next h =
     let back = place (h .0) in
-    land begin (instr 42 0 0 0 (land next (instr 32 0 next 0 (h .0, aimed (h .0) (after next) next (back + 1) (h .1)))))
+    (do
+      resolveBreaks (after next) next (back + 1)
+      instr O.JUMP 0 next 0
+      land next
+      instr O.LOOP-END 0 0 0
+      land begin) h
 
 -- a call takes its number, and places for its arguments' starts
 unfoldable pub callBegun : ℕ → ℕ → ℕ → Held → Found
@@ -105,11 +134,15 @@ callBegun index impl count h =
       appendedWords k CALLS-ROOM (h .1) (CALLS + 4 * k) (index ∷ impl ∷ count ∷ first ∷ []),
     )
 
--- the segment of the argument at that place is finished: its End, its start, and the caller's segment is open again; a Break or Continue that no loop has aimed leads to the start
+abbrev pub withCall : ℕ → ℕ → ℕ → (ℕ → Step) → Step
+withCall index impl count f h = going (callBegun index impl count h) f
+
+-- the segment of the argument at that place is finished: its End, its start, and the caller's segment is open again
+-- a Break or Continue that no loop has aimed leads to the start
 unfoldable pub argumentClosed : ℕ → Bool → ℕ → Step
 argumentClosed base waiting slot h =
-    let g = instr 48 0 0 0 h in
-    let r = closed base waiting (g .0, aimed (g .0) 0 0 0 (g .1)) in
+    let g = instr O.END 0 0 0 h in
+    let r = closed base waiting (resolveBreaks 0 0 0 g) in
     (r .0, cond (ltb slot ARGUMENTS-ROOM) (set (r .1) (ARGUMENTS + slot) (g .0 .finished)) (r .1))
 
 -- a hash of a path
@@ -121,5 +154,7 @@ pathAdded v h =
 -- a store: its root's kind and index, the first entry of its path, their count
 unfoldable pub storeAdded : ℕ → ℕ → ℕ → ℕ → Held → Found
 storeAdded kind index first count h =
-    let n = h .0 .stores in
-    (record { state = set-stores (appendedCount n STORES-ROOM) (h .0); index = n }, appendedWords n STORES-ROOM (h .1) (STORES + 4 * n) (kind ∷ index ∷ first ∷ count ∷ []))
+    let n = h .0 .stores in (
+      record { state = set-stores (appendedCount n STORES-ROOM) (h .0); index = n },
+      appendedWords n STORES-ROOM (h .1) (STORES + 4 * n) (kind ∷ index ∷ first ∷ count ∷ []),
+    )

@@ -3,23 +3,25 @@ use mathlib.Core.Bool.{Bool, cond}
 use mathlib.Core.List.{List}
 use Prim.Native.Nat.{ℕ, _%_}
 use lib.Dec.{eqb}
+use Rattle.ast.specs.NameKinds as Kind
 use Rattle.payload.specs.declared.NameRef.{NameRef}
 use Rattle.payload.specs.declared.Payload.{Payload}
-use Rattle.payload.specs.declared.Payload.the-variants.{None, Float, Hash, Context, Entity, Temp, Member, ArrayVariable, Geometry, Material, Texture, Query, HostMath}
+use Rattle.payload.specs.declared.Payload.the-variants.{None, Float, Hash, Context, Entity, Temp, Member, ArrayVariable}
+use Rattle.payload.specs.declared.Payload.the-variants.{Geometry, Material, Texture, Query, HostMath}
 
 -- by the payload's variant: none, a float, a hash, a host function, a name of a kind, a query
 unfoldable pub cases : {X : Type 0} → Payload → X → (ℕ → X) → (ℕ → X) → (ℕ → X) → (ℕ → NameRef → X) → (ℕ → ℕ → X) → X
 cases None n f h m s q = n
 cases (Float b) n f h m s q = f b
 cases (Hash v) n f h m s q = h v
-cases (Context r) n f h m s q = s 3 r
-cases (Entity r) n f h m s q = s 4 r
-cases (Temp r) n f h m s q = s 5 r
-cases (Member r) n f h m s q = s 6 r
-cases (ArrayVariable r) n f h m s q = s 7 r
-cases (Geometry r) n f h m s q = s 8 r
-cases (Material r) n f h m s q = s 9 r
-cases (Texture r) n f h m s q = s 10 r
+cases (Context r) n f h m s q = s Kind.CONTEXT r
+cases (Entity r) n f h m s q = s Kind.ENTITY r
+cases (Temp r) n f h m s q = s Kind.TEMP r
+cases (Member r) n f h m s q = s Kind.MEMBER r
+cases (ArrayVariable r) n f h m s q = s Kind.ARRAY-VARIABLE r
+cases (Geometry r) n f h m s q = s Kind.GEOMETRY r
+cases (Material r) n f h m s q = s Kind.MATERIAL r
+cases (Texture r) n f h m s q = s Kind.TEXTURE r
 cases (Query r) n f h m s q = q (r .index) (r .«impl_idx»)
 cases (HostMath v) n f h m s q = m v
 
@@ -48,4 +50,9 @@ unfoldable pub stringOf : Payload → ℕ
 stringOf v = asHash v 0 (λ h. h)
 
 unfoldable pub resourceOf : Payload → ℕ
-resourceOf v = asName 8 v (asName 9 v (asName 10 v 0 (λ n. n .hash)) (λ n. n .hash)) (λ n. n .hash)
+resourceOf v =
+    asName Kind.GEOMETRY v
+    (asName Kind.MATERIAL v
+    (asName Kind.TEXTURE v 0 (λ n. n .hash))
+    (λ n. n .hash))
+    (λ n. n .hash)

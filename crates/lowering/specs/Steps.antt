@@ -2,24 +2,120 @@
 use mathlib.Core.Bool.{Bool, false, cond}
 use Prim.Native.Nat.{ℕ}
 use lib.Bits.{bitAnd, bitOr}
+use Rattle.program.specs.Kinds.{USES-QUERIES, NOT-FLOAT}
 use Rattle.depth.specs.Counters as D
 use Rattle.builder.specs.declared.State.{State}
 use Rattle.builder.specs.Fields.{set-depth, set-flags}
 
 abbrev pub set-stores : ℕ → State → State
-set-stores x s = record { top = s .top; base = s .base; finished = s .finished; waiting = s .waiting; consts = s .consts; posts = s .posts; hashes = s .hashes; names = s .names; temps = s .temps; members = s .members; stores = x; paths = s .paths; calls = s .calls; arguments = s .arguments; depth = s .depth; flags = s .flags; «float_loop» = s .«float_loop»; refusal = s .refusal }
+set-stores x s = record {
+  top = s .top;
+  base = s .base;
+  finished = s .finished;
+  waiting = s .waiting;
+  consts = s .consts;
+  posts = s .posts;
+  hashes = s .hashes;
+  names = s .names;
+  temps = s .temps;
+  members = s .members;
+  stores = x;
+  paths = s .paths;
+  calls = s .calls;
+  arguments = s .arguments;
+  depth = s .depth;
+  flags = s .flags;
+  «float_loop» = s .«float_loop»;
+  refusal = s .refusal;
+}
 
 abbrev pub set-paths : ℕ → State → State
-set-paths x s = record { top = s .top; base = s .base; finished = s .finished; waiting = s .waiting; consts = s .consts; posts = s .posts; hashes = s .hashes; names = s .names; temps = s .temps; members = s .members; stores = s .stores; paths = x; calls = s .calls; arguments = s .arguments; depth = s .depth; flags = s .flags; «float_loop» = s .«float_loop»; refusal = s .refusal }
+set-paths x s = record {
+  top = s .top;
+  base = s .base;
+  finished = s .finished;
+  waiting = s .waiting;
+  consts = s .consts;
+  posts = s .posts;
+  hashes = s .hashes;
+  names = s .names;
+  temps = s .temps;
+  members = s .members;
+  stores = s .stores;
+  paths = x;
+  calls = s .calls;
+  arguments = s .arguments;
+  depth = s .depth;
+  flags = s .flags;
+  «float_loop» = s .«float_loop»;
+  refusal = s .refusal;
+}
 
 abbrev pub set-calls : ℕ → State → State
-set-calls x s = record { top = s .top; base = s .base; finished = s .finished; waiting = s .waiting; consts = s .consts; posts = s .posts; hashes = s .hashes; names = s .names; temps = s .temps; members = s .members; stores = s .stores; paths = s .paths; calls = x; arguments = s .arguments; depth = s .depth; flags = s .flags; «float_loop» = s .«float_loop»; refusal = s .refusal }
+set-calls x s = record {
+  top = s .top;
+  base = s .base;
+  finished = s .finished;
+  waiting = s .waiting;
+  consts = s .consts;
+  posts = s .posts;
+  hashes = s .hashes;
+  names = s .names;
+  temps = s .temps;
+  members = s .members;
+  stores = s .stores;
+  paths = s .paths;
+  calls = x;
+  arguments = s .arguments;
+  depth = s .depth;
+  flags = s .flags;
+  «float_loop» = s .«float_loop»;
+  refusal = s .refusal;
+}
 
 abbrev pub set-arguments : ℕ → State → State
-set-arguments x s = record { top = s .top; base = s .base; finished = s .finished; waiting = s .waiting; consts = s .consts; posts = s .posts; hashes = s .hashes; names = s .names; temps = s .temps; members = s .members; stores = s .stores; paths = s .paths; calls = s .calls; arguments = x; depth = s .depth; flags = s .flags; «float_loop» = s .«float_loop»; refusal = s .refusal }
+set-arguments x s = record {
+  top = s .top;
+  base = s .base;
+  finished = s .finished;
+  waiting = s .waiting;
+  consts = s .consts;
+  posts = s .posts;
+  hashes = s .hashes;
+  names = s .names;
+  temps = s .temps;
+  members = s .members;
+  stores = s .stores;
+  paths = s .paths;
+  calls = s .calls;
+  arguments = x;
+  depth = s .depth;
+  flags = s .flags;
+  «float_loop» = s .«float_loop»;
+  refusal = s .refusal;
+}
 
 abbrev pub set-float-loop : Bool → State → State
-set-float-loop x s = record { top = s .top; base = s .base; finished = s .finished; waiting = s .waiting; consts = s .consts; posts = s .posts; hashes = s .hashes; names = s .names; temps = s .temps; members = s .members; stores = s .stores; paths = s .paths; calls = s .calls; arguments = s .arguments; depth = s .depth; flags = s .flags; «float_loop» = x; refusal = s .refusal }
+set-float-loop x s = record {
+  top = s .top;
+  base = s .base;
+  finished = s .finished;
+  waiting = s .waiting;
+  consts = s .consts;
+  posts = s .posts;
+  hashes = s .hashes;
+  names = s .names;
+  temps = s .temps;
+  members = s .members;
+  stores = s .stores;
+  paths = s .paths;
+  calls = s .calls;
+  arguments = s .arguments;
+  depth = s .depth;
+  flags = s .flags;
+  «float_loop» = x;
+  refusal = s .refusal;
+}
 
 -- one more operand without a Push; k fewer
 unfoldable pub operandEntered : State → State
@@ -45,8 +141,8 @@ flagged bits s = set-flags (bitOr (s .flags) bits) s
 
 -- all bits but FLOAT_ONLY stay
 unfoldable pub notFloatOnly : State → State
-notFloatOnly s = set-float-loop false (set-flags (bitAnd (s .flags) 2046) s)
+notFloatOnly s = set-float-loop false (set-flags (bitAnd (s .flags) NOT-FLOAT) s)
 
 -- a query, alone if it has no arguments: USES_QUERIES
 unfoldable pub queried : Bool → State → State
-queried alone s = set-float-loop (cond alone (s .«float_loop») false) (set-flags (bitOr (bitAnd (s .flags) 2046) 256) s)
+queried alone s = set-float-loop (cond alone (s .«float_loop») false) (set-flags (bitOr (bitAnd (s .flags) NOT-FLOAT) USES-QUERIES) s)
