@@ -86,8 +86,7 @@ post v h =
     let n = h .0 .posts in
     let k = internedIndex (pairHit (h .1) POSTS (v .scale) (v .offset)) n in
     cond (isIdentity v)
-    (record { state = h .0; index = 0 }, h .1)
-    (
+    (record { state = h .0; index = 0 }, h .1) (
       record { state = set-posts (internedCount k n POSTS-ROOM) (h .0); index = after k },
       internedWords k n POSTS-ROOM (h .1) (POSTS + 2 * n) (v .scale ∷ v .offset ∷ []),
     )
