@@ -23,12 +23,16 @@ use Rattle.lowering.specs.Pools as B
 use Rattle.lowering.specs.Pools.{Found, after, constant}
 use Rattle.builder.specs.Segments.{opened}
 use Rattle.lowering.specs.declared.control.EachVariable.{EachVariable}
+use Rattle.lowering.specs.declared.control.EachIndex.the-variants.{Refused}
 use Rattle.lowering.specs.Payloads.{cases, asName, asMath, asQuery, constOf}
 use Rattle.lowering.specs.Steps.{operandEntered, popped, loopEntered, loopLeft, handlerEntered, handlerLeft, flagged, notFloatOnly, queried}
 use Rattle.lowering.specs.Parts.{Step, instr, postBits, putPost, postInstr, guard, land, loopClosed, eachClosed, callBegun, argumentClosed}
+use Rattle.lowering.specs.Parts.{eachNext}
 use Rattle.lowering.specs.Rules.{rule, payload, memberPut, arrayPut, store, targetRefusal, compareConst, equalConst, variable, arrayElement, chained, memberRead, arguments, called, query, binary, compare, equal, junction, logical, coalesce, otherwise, conditional, statement, statementsFrom, statements, ret, countedLoop, each, forEach, value, assignment, pointer, bracket, unary, addition, add, mul, div, hosted, hostMath}
 use Rattle.lowering.proofs.Others.{not-member}
 use Rattle.lowering.proofs.Variants.{no-array, no-query, no-math}
+use Rattle.lowering.proofs.Refused.{is-refused, not-refused}
+use Rattle.lowering.proofs.control.EachIndex as index
 
 module _ (t : List ℕ) (E : ℕ → Bool → Step) (C : ℕ → NameRef → Bool → Step) (R : ℕ → Bool → Step) (p : ℕ) (l : Bool) (h : Held) where
   -- ---- values
@@ -262,17 +266,17 @@ module _ (t : List ℕ) (E : ℕ → Bool → Step) (C : ℕ → NameRef → Boo
   unfolding forEach
   each-few e1 e2 ek z e = rw (← ek, lt-ltb _ _ z, e, e2, e1)
 
-  pub each-none : {k a : ℕ} {s1 s2 : State} {y : EachVariable × List ℕ} → s1 ≡ flagged 64 (h .0) → s2 ≡ notFloatOnly s1 → k ≡ countAt t p → 3 ≤ k → a ≡ firstAt t p → y ≡ variable t a (s2, h .1) → y .0 .op ≡ 0 → _≡_ {A = Held} (y .0 .state, y .1) (forEach t E C R p l h)
+  pub each-none : {k a : ℕ} {s1 s2 : State} {y : EachVariable × List ℕ} → s1 ≡ flagged 64 (h .0) → s2 ≡ notFloatOnly s1 → k ≡ countAt t p → 3 ≤ k → a ≡ firstAt t p → y ≡ variable t a (s2, h .1) → y .0 .index ≡ Refused → _≡_ {A = Held} (y .0 .state, y .1) (forEach t E C R p l h)
   unfolding forEach
-  each-none e1 e2 ek z ea ey n = rw (← ek, le-ltb _ _ z, ← ea, ← e1, ← e2, ← ey, eq-eqb _ _ n)
+  each-none e1 e2 ek z ea ey n = rw (← ek, le-ltb _ _ z, ← ea, ← e1, ← e2, ← ey, is-refused _ n)
 
-  pub each-some : {k a : ℕ} {s1 s2 : State} {y : EachVariable × List ℕ} {g : Held} → s1 ≡ flagged 64 (h .0) → s2 ≡ notFloatOnly s1 → k ≡ countAt t p → 3 ≤ k → a ≡ firstAt t p → y ≡ variable t a (s2, h .1) → (y .0 .op ≡ 0 → ⊥) → g ≡ each t E C R p (y .0 .op) (y .0 .index) l (y .0 .state, y .1) → g ≡ forEach t E C R p l h
+  pub each-some : {k a : ℕ} {s1 s2 : State} {y : EachVariable × List ℕ} {g : Held} → s1 ≡ flagged 64 (h .0) → s2 ≡ notFloatOnly s1 → k ≡ countAt t p → 3 ≤ k → a ≡ firstAt t p → y ≡ variable t a (s2, h .1) → OneOf (0 ∷ 1 ∷ []) (tagOf index.the-type (y .0 .index)) → g ≡ each t E C R p (eachNext (y .0 .index)) l (y .0 .state, y .1) → g ≡ forEach t E C R p l h
   unfolding forEach
-  each-some e1 e2 ek z ea ey n e = rw (← ek, le-ltb _ _ z, ← ea, ← e1, ← e2, ← ey, ne-eqb _ _ n) e
+  each-some e1 e2 ek z ea ey n e = rw (← ek, le-ltb _ _ z, ← ea, ← e1, ← e2, ← ey, not-refused _ n) e
 
-  pub each-all : (op i : ℕ) {a b d v : ℕ} {s1 s2 : State} {x y : Found} {h1 h2 h3 h4 : Held} → a ≡ firstAt t p → b ≡ nextAt t a → h1 ≡ E b l h → x ≡ guard 43 0 0 h1 → y ≡ guard op 0 i (x .0 .state, x .1) → s1 ≡ loopEntered (y .0 .state) → d ≡ nextAt t b → h2 ≡ E d true (s1, y .1) → h3 ≡ eachClosed (x .0 .index) (y .0 .index) h2 → s2 ≡ loopLeft (h3 .0) → v ≡ fold (postBits t p) 0 → h4 ≡ constant v (s2, h3 .1) → h4 ≡ each t E C R p op i l h
+  pub each-all : (next : Held → Found) {a b d v : ℕ} {s1 s2 : State} {x y : Found} {h1 h2 h3 h4 : Held} → a ≡ firstAt t p → b ≡ nextAt t a → h1 ≡ E b l h → x ≡ guard 43 0 0 h1 → y ≡ next (x .0 .state, x .1) → s1 ≡ loopEntered (y .0 .state) → d ≡ nextAt t b → h2 ≡ E d true (s1, y .1) → h3 ≡ eachClosed (x .0 .index) (y .0 .index) h2 → s2 ≡ loopLeft (h3 .0) → v ≡ fold (postBits t p) 0 → h4 ≡ constant v (s2, h3 .1) → h4 ≡ each t E C R p next l h
   unfolding each
-  each-all op i ea eb e1 ex ey e2 ed e3 e4 e5 ev e6 = rw (e6, ev, e5, e4, e3, ed, e2, ey, ex, e1, eb, ea)
+  each-all next ea eb e1 ex ey e2 ed e3 e4 e5 ev e6 = rw (e6, ev, e5, e4, e3, ed, e2, ey, ex, e1, eb, ea)
 
 module _ (t : List ℕ) (E : ℕ → Bool → Step) (C : ℕ → NameRef → Bool → Step) (R : ℕ → Bool → Step) (p : ℕ) where
   pub query-other : (h : Held) {y : Payload} {g : Held} → y ≡ payload t p → OneOf (0 ∷ 1 ∷ 2 ∷ 3 ∷ 4 ∷ 5 ∷ 6 ∷ 7 ∷ 8 ∷ 9 ∷ 10 ∷ 12 ∷ []) (tagOf the-type y) → g ≡ failed 7 h → g ≡ query t E C R p h

@@ -13,6 +13,7 @@ use Rattle.lowering.specs.Pools as B
 use Rattle.lowering.specs.Pools.{Found}
 use Rattle.builder.specs.Segments.{aimed, closed}
 use Rattle.lowering.specs.declared.control.EachVariable.{EachVariable}
+use Rattle.lowering.specs.declared.control.EachIndex.the-variants.{Refused}
 use Rattle.lowering.specs.Parts.{Step, going, place, argumentClosed, guard, front, instr}
 use Rattle.lowering.specs.Rules.{noVariable}
 
@@ -35,9 +36,9 @@ same-entry i e f = λ j. (record { state = e j; index = i }, f j)
 pub same-held : {s t : State} {u v : List ℕ} → s ≡ t → u ≡ v → _≡_ {A = Held} (s, u) (t, v)
 same-held e f = λ j. (e j, f j)
 
-pub refused-variable : {g : Held} (h : Held) → g ≡ failed 7 h → _≡_ {A = EachVariable × List ℕ} (record { state = g .0; op = 0; index = 0 }, g .1) (noVariable h)
+pub refused-variable : {g : Held} (h : Held) → g ≡ failed 7 h → _≡_ {A = EachVariable × List ℕ} (record { state = g .0; index = Refused }, g .1) (noVariable h)
 unfolding noVariable
-refused-variable h e = λ j. (record { state = e j .0; op = 0; index = 0 }, e j .1)
+refused-variable h e = λ j. (record { state = e j .0; index = Refused }, e j .1)
 
 pub aim-all : (s : State) (w : List ℕ) {u : List ℕ} {a b x y m n : ℕ} → u ≡ aimed s a x m w → a ≡ b → x ≡ y → m ≡ n → u ≡ aimed s b y n w
 aim-all s w e f g h = e ∙ (λ j. aimed s (f j) (g j) (h j) w)

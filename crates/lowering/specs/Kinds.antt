@@ -1,4 +1,7 @@
--- An entry of a kind of index as one of a plain index: the kind is a tuple struct around its number. Definitions only.
+-- A kind of index is a tuple struct around its number: an entry of a kind as one of a plain index, a store's root as two numbers. Definitions only.
+use Prim.Native.Nat.{ℕ}
+use Rattle.lowering.specs.declared.assign.StoreRoot.{StoreRoot}
+use Rattle.lowering.specs.declared.assign.StoreRoot.the-variants.{Var, Temp, Other}
 use Rattle.lowering.specs.declared.interning.Entry.{Entry}
 use Rattle.lowering.specs.declared.interning.ConstEntry.{ConstEntry}
 use Rattle.lowering.specs.declared.interning.HashEntry.{HashEntry}
@@ -32,3 +35,14 @@ ofCall e = record { state = e .state; index = e .index .0 }
 
 abbrev pub ofPost : PostEntry → Entry
 ofPost e = record { state = e .state; index = e .index .0 }
+
+-- 01, The program image: "root 0 Var, 1 Temp, 2 Other; index 2, 0 for Other"
+unfoldable pub rootKind : StoreRoot → ℕ
+rootKind (Var n) = 0
+rootKind (Temp n) = 1
+rootKind Other = 2
+
+unfoldable pub rootIndex : StoreRoot → ℕ
+rootIndex (Var n) = n .0
+rootIndex (Temp n) = n .0
+rootIndex Other = 0

@@ -1,5 +1,5 @@
 -- The parts that rules are made of, as steps on the builder's state and the workspace's words. Definitions only.
-use mathlib.Core.Bool.{Bool, cond}
+use mathlib.Core.Bool.{Bool, true, false, cond}
 use mathlib.Core.List.{List, [], _∷_}
 use Prim.Native.Nat.{ℕ, _+_, _*_, _-_, _%_, min}
 use lib.Dec.{ltb}
@@ -12,6 +12,8 @@ use Rattle.lowering.specs.Regions.{appendedCount, appendedWords}
 use Rattle.payload.specs.declared.NameRef.{NameRef}
 use Rattle.builder.specs.declared.State.{State}
 use Rattle.lowering.specs.declared.interning.Entry.{Entry}
+use Rattle.lowering.specs.declared.control.EachIndex.{EachIndex}
+use Rattle.lowering.specs.declared.control.EachIndex.the-variants.{Name, Temp, Refused}
 use Rattle.builder.specs.Steps.{Held, emitted, flushed, put}
 use Rattle.lowering.specs.Pools as B
 use Rattle.lowering.specs.Pools.{Found, after, high, low}
@@ -124,6 +126,18 @@ eachClosed begin next h =
       land next
       instr O.LOOP-END 0 0 0
       land begin) h
+
+-- 01, question 7: "a ForEach variable Entity or Temp under any operator"
+unfoldable pub isRefused : EachIndex → Bool
+isRefused (Name n) = false
+isRefused (Temp n) = false
+isRefused Refused = true
+
+-- 01, The program image: "in EachNextVar and EachNextTemp, A is the exit and B the variable"; a refused variable has neither
+unfoldable pub eachNext : EachIndex → Held → Found
+eachNext (Name n) = guard 44 0 (n .0)
+eachNext (Temp n) = guard 45 0 (n .0)
+eachNext Refused = λ h. (record { state = h .0; index = place (h .0) }, h .1)
 
 -- a call takes its number, and places for its arguments' starts
 unfoldable pub callBegun : ℕ → ℕ → ℕ → Held → Found

@@ -25,23 +25,32 @@ use Rattle.lowering.specs.Pools.{Found, after, constant}
 use Rattle.builder.specs.Segments.{opened}
 use Rattle.lowering.specs.declared.assign.PathEnd.{PathEnd}
 use Rattle.lowering.specs.declared.control.EachVariable.{EachVariable}
+use Rattle.lowering.specs.declared.control.EachIndex.{EachIndex}
+use Rattle.lowering.specs.declared.control.EachIndex.the-variants.{Name, Temp, Refused}
 use Rattle.lowering.specs.Payloads.{asName, asHash, asMath, asQuery, floatOf, constOf, stringOf, resourceOf}
 use Rattle.lowering.specs.Steps.{operandEntered, popped, loopEntered, loopLeft, handlerEntered, handlerLeft, flagged, notFloatOnly, queried}
 use Rattle.lowering.specs.Parts.{Step, _>>_, _>>=_, either, still, instr, going, withConst, withHash, withName, withTemp, withMember}
 use Rattle.lowering.specs.Parts.{postBits, withPost, putPost, postInstr, guard, withGuard, land, jumpOut, resolveBreaks, loopClosed, eachClosed}
 use Rattle.lowering.specs.Parts.{withCall, argumentClosed, pathAdded, storeAdded}
+use Rattle.lowering.specs.Parts.{isRefused, eachNext}
 
 -- the value of the first key that is r, and d where none is
 unfoldable pub among : List (ℕ × Held) → ℕ → Held → Held
 among [] r d = d
 among (e ∷ l) r d = cond (eqb r (e .0)) (e .1) (among l r d)
 
--- a ForEach variable that is refused, and one that is interned
+-- a ForEach variable that is refused, and one that is interned, as a name or as a temp
 unfoldable pub noVariable : Held → EachVariable × List ℕ
-noVariable h = let g = failed 7 h in (record { state = g .0; op = 0; index = 0 }, g .1)
+noVariable h = let g = failed 7 h in (record { state = g .0; index = Refused }, g .1)
 
-unfoldable pub variableOf : ℕ → Found → EachVariable × List ℕ
-variableOf op e = (record { state = e .0 .state; op = op; index = e .0 .index }, e .1)
+unfoldable pub variableOf : (ℕ → EachIndex) → Found → EachVariable × List ℕ
+variableOf kind e = (record { state = e .0 .state; index = kind (e .0 .index) }, e .1)
+
+abbrev pub nameKind : ℕ → EachIndex
+nameKind k = Name (record { 0 = k })
+
+abbrev pub tempKind : ℕ → EachIndex
+tempKind k = Temp (record { 0 = k })
 
 -- a path with a link that is no member with a child
 abbrev pub noPath : PathEnd
@@ -204,10 +213,10 @@ module _ (t : List ℕ) where
   -- ---- control
 
   unfoldable pub variableTemp : ℕ → Held → EachVariable × List ℕ
-  variableTemp p h = asName Kind.TEMP (payload p) (noVariable h) (λ n. variableOf O.EACH-NEXT-TEMP (B.temp n h))
+  variableTemp p h = asName Kind.TEMP (payload p) (noVariable h) (λ n. variableOf tempKind (B.temp n h))
 
   unfoldable pub variable : ℕ → Held → EachVariable × List ℕ
-  variable p h = asName Kind.ENTITY (payload p) (variableTemp p h) (λ n. variableOf O.EACH-NEXT-VAR (B.name n h))
+  variable p h = asName Kind.ENTITY (payload p) (variableTemp p h) (λ n. variableOf nameKind (B.name n h))
 
   -- ---- rules without operands, from the last
 
@@ -391,12 +400,12 @@ module _ (t : List ℕ) (E : ℕ → Bool → Step) (C : ℕ → NameRef → Boo
       still loopLeft
       constant (fold (postBits t p) 0)
 
-  -- behind the variable: its opcode and index
-  unfoldable pub each : ℕ → ℕ → ℕ → Bool → Step
-  each p op k l h =
+  -- behind the variable, whose EachNext is `next`
+  unfoldable pub each : ℕ → (Held → Found) → Bool → Step
+  each p next l h =
       let b = nextAt t (firstAt t p) in
       let e = guard O.EACH-BEGIN 0 0 (E b l h) in
-      let f = guard op 0 k (e .0 .state, e .1) in
+      let f = next (e .0 .state, e .1) in
       let x = E (nextAt t b) true (still loopEntered (f .0 .state, f .1)) in
       constant (fold (postBits t p) 0) (still loopLeft (eachClosed (e .0 .index) (f .0 .index) x))
 
@@ -404,7 +413,7 @@ module _ (t : List ℕ) (E : ℕ → Bool → Step) (C : ℕ → NameRef → Boo
   forEach p l h =
       let g = still (λ s. notFloatOnly (flagged Flag.HAS-LOOPS s)) h in
       let v = variable t (firstAt t p) g in
-      cond (ltb (countAt t p) 3) (failed 7 g) (cond (eqb (v .0 .op) 0) (v .0 .state, v .1) (each p (v .0 .op) (v .0 .index) l (v .0 .state, v .1)))
+      cond (ltb (countAt t p) 3) (failed 7 g) (cond (isRefused (v .0 .index)) (v .0 .state, v .1) (each p (eachNext (v .0 .index)) l (v .0 .state, v .1)))
 
   -- the second child, or the node's constant
   unfoldable pub value : ℕ → ℕ → Bool → Step

@@ -14,15 +14,17 @@ use builder::State;
 use builder::refusals;
 use payload::Payload;
 use program::Flags;
+use program::NameIdx;
 use program::PostIdx;
 use program::StoreIdx;
+use program::TempIdx;
 use program::opcodes;
 use workspace::layout;
 ghost use mathlib.Core.Path.{_≡_};
 ghost use mathlib.Core.List.{List};
 ghost use Rattle.builder.specs.Steps.{Held};
 ghost use Rattle.lowering.specs.Pools.{Found, after};
-ghost use Rattle.lowering.specs.Kinds.{ofStore};
+ghost use Rattle.lowering.specs.Kinds.{ofStore, rootKind, rootIndex};
 ghost use Rattle.lowering.specs.Parts.{pathAdded, storeAdded};
 ghost use Rattle.lowering.specs.Rules as R;
 
@@ -31,6 +33,13 @@ pub struct PathEnd {
     pub fine: bool,
     pub root: usize,
     pub count: u16,
+}
+
+// What a member store writes under: a variable, a temp, or any other value.
+pub enum StoreRoot {
+    Var(NameIdx),
+    Temp(TempIdx),
+    Other,
 }
 
 pub(crate) fn rule_at(tree: &[u8], at: usize) -> u8
@@ -120,8 +129,30 @@ fn path_hashes(tree: &[u8], at: usize, ws: &mut [u32], st: State, levels: u16) -
     add_path(ws, s, n.hash)
 }
 
-fn add_store(ws: &mut [u32], st: State, kind: u32, index: u16, first: u16, count: u16) -> StoreEntry
-    ensures { λ r. ⌜ _≡_ {A = Found} (ofStore r, now (ws .exit)) (storeAdded kind index first count (st, now (ws .entry))) ⌝ }
+// The number of a root's kind.
+fn root_kind(root: StoreRoot) -> u32
+    ensures { λ r. ⌜ r ≡ rootKind root ⌝ }
+{
+    match root {
+        StoreRoot::Var(_) => 0,
+        StoreRoot::Temp(_) => 1,
+        StoreRoot::Other => 2,
+    }
+}
+
+// The number of a root's index; 0 where it has none.
+fn root_index(root: StoreRoot) -> u16
+    ensures { λ r. ⌜ r ≡ rootIndex root ⌝ }
+{
+    match root {
+        StoreRoot::Var(n) => n.0,
+        StoreRoot::Temp(n) => n.0,
+        StoreRoot::Other => 0,
+    }
+}
+
+fn add_store(ws: &mut [u32], st: State, root: StoreRoot, first: u16, count: u16) -> StoreEntry
+    ensures { λ r. ⌜ _≡_ {A = Found} (ofStore r, now (ws .exit)) (storeAdded (rootKind root) (rootIndex root) first count (st, now (ws .entry))) ⌝ }
 {
     let k = st.stores;
     let n = pools::append_four(
@@ -129,8 +160,8 @@ fn add_store(ws: &mut [u32], st: State, kind: u32, index: u16, first: u16, count
         regions::STORES,
         layout::STORES_ROOM,
         k,
-        kind,
-        index as u32,
+        root_kind(root),
+        root_index(root) as u32,
         first as u32,
         count as u32,
     );
@@ -142,23 +173,22 @@ fn add_store(ws: &mut [u32], st: State, kind: u32, index: u16, first: u16, count
     }
 }
 
-// A store to the path at `at` under a root of that kind and index.
+// A store to the path at `at` under that root.
 fn store_as(
     tree: &[u8],
     at: usize,
     ws: &mut [u32],
     st: State,
-    kind: u32,
-    index: u16,
+    root: StoreRoot,
     levels: u16,
     count: u16,
     q: PostIdx,
 ) -> State
-    ensures { λ r. ⌜ _≡_ {A = Held} (r, now (ws .exit)) (R.storeAs (now (tree .entry)) kind index levels at count (q .0) (st, now (ws .entry))) ⌝ }
+    ensures { λ r. ⌜ _≡_ {A = Held} (r, now (ws .exit)) (R.storeAs (now (tree .entry)) (rootKind root) (rootIndex root) levels at count (q .0) (st, now (ws .entry))) ⌝ }
 {
     let first = st.paths;
     let s = path_hashes(tree, at, ws, st, levels);
-    let e = add_store(ws, s, kind, index, first, count);
+    let e = add_store(ws, s, root, first, count);
     store_instr(ws, e, opcodes::STORE_MEMBER, 0, q)
 }
 
@@ -176,11 +206,12 @@ fn root_temp(
 {
     let p = payload::payload_at(tree, root);
     let Payload::Temp(n) = p else {
-        return store_as(tree, at, ws, st, 2, 0, levels, count, q);
+        return store_as(tree, at, ws, st, StoreRoot::Other, levels, count, q);
     };
     let e = interning::temp(ws, st, n);
     let s = e.state;
-    store_as(tree, at, ws, s, 1, e.index.0, levels, count, q)
+    let k = e.index;
+    store_as(tree, at, ws, s, StoreRoot::Temp(k), levels, count, q)
 }
 
 fn root_var(
@@ -201,7 +232,8 @@ fn root_var(
     };
     let e = interning::name(ws, st, n);
     let s = e.state;
-    store_as(tree, at, ws, s, 0, e.index.0, levels, count, q)
+    let k = e.index;
+    store_as(tree, at, ws, s, StoreRoot::Var(k), levels, count, q)
 }
 
 fn store_member(tree: &[u8], at: usize, ws: &mut [u32], st: State, levels: u16, q: PostIdx) -> State

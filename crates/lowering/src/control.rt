@@ -1,19 +1,24 @@
 // Control: breaks, the ends of loops, a ForEach variable.
 use crate::assign::one_more;
 use crate::interning;
+use crate::interning::Entry;
+use crate::parts::guard;
 use crate::parts::instr;
 use crate::parts::land;
 use builder::State;
 use builder::refusals;
 use builder::segments;
 use payload::Payload;
+use program::NameIdx;
+use program::TempIdx;
 use program::opcodes;
 ghost use mathlib.Core.Path.{_≡_};
 ghost use mathlib.Core.List.{List};
 ghost use Prim.Native.Nat.{ℕ};
 ghost use Rattle.builder.specs.Steps.{Held};
 ghost use Rattle.lowering.specs.declared.control.EachVariable.{EachVariable};
-ghost use Rattle.lowering.specs.Parts.{jumpOut, loopClosed, eachClosed};
+ghost use Rattle.lowering.specs.Pools.{Found};
+ghost use Rattle.lowering.specs.Parts.{jumpOut, loopClosed, eachClosed, eachNext};
 ghost use Rattle.lowering.specs.Rules as R;
 
 // A Break or Continue that waits for its loop; Halt where none is open.
@@ -49,11 +54,30 @@ pub(crate) fn close_each(ws: &mut [u32], st: State, begin: u16, next: u16) -> St
     land(ws, e, begin)
 }
 
-// A ForEach variable: the opcode of its EachNext and its index; opcode 0 where it is refused.
+// A ForEach variable's index, by what it is: a variable, a temp, or none where it is refused.
+pub enum EachIndex {
+    Name(NameIdx),
+    Temp(TempIdx),
+    Refused,
+}
+
 pub struct EachVariable {
     pub state: State,
-    pub op: u8,
-    pub index: u16,
+    pub index: EachIndex,
+}
+
+// The variable's EachNext, whose target is not known yet; a refused one has none.
+pub(crate) fn each_next(ws: &mut [u32], st: State, index: EachIndex) -> Entry
+    ensures { λ r. ⌜ _≡_ {A = Found} (r, now (ws .exit)) (eachNext index (st, now (ws .entry))) ⌝ }
+{
+    match index {
+        EachIndex::Name(n) => guard(ws, st, opcodes::EACH_NEXT_VAR, 0, n.0),
+        EachIndex::Temp(n) => guard(ws, st, opcodes::EACH_NEXT_TEMP, 0, n.0),
+        EachIndex::Refused => Entry {
+            state: st,
+            index: segments::place(st),
+        },
+    }
 }
 
 fn no_variable(ws: &mut [u32], st: State) -> EachVariable
@@ -62,8 +86,7 @@ fn no_variable(ws: &mut [u32], st: State) -> EachVariable
     let s = builder::failed(ws, st, refusals::FAILED);
     EachVariable {
         state: s,
-        op: 0,
-        index: 0,
+        index: EachIndex::Refused,
     }
 }
 
@@ -76,10 +99,10 @@ fn variable_temp(tree: &[u8], at: usize, ws: &mut [u32], st: State) -> EachVaria
     };
     let e = interning::temp(ws, st, n);
     let s = e.state;
+    let k = e.index;
     EachVariable {
         state: s,
-        op: opcodes::EACH_NEXT_TEMP,
-        index: e.index.0,
+        index: EachIndex::Temp(k),
     }
 }
 
@@ -92,9 +115,9 @@ pub(crate) fn variable(tree: &[u8], at: usize, ws: &mut [u32], st: State) -> Eac
     };
     let e = interning::name(ws, st, n);
     let s = e.state;
+    let k = e.index;
     EachVariable {
         state: s,
-        op: opcodes::EACH_NEXT_VAR,
-        index: e.index.0,
+        index: EachIndex::Name(k),
     }
 }

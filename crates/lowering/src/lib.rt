@@ -16,6 +16,7 @@ use builder::State;
 use builder::refusals;
 use builder::segments;
 use code::segment;
+use control::EachIndex;
 use depth::Depth;
 use parts::guard;
 use parts::instr;
@@ -42,6 +43,7 @@ ghost use Rattle.wire.specs.Bytes.{be8};
 ghost use Rattle.ast.specs.Node.{firstAt, countAt};
 ghost use Rattle.program.specs.Image.{bit};
 ghost use Rattle.builder.specs.Steps.{Held};
+ghost use Rattle.lowering.specs.Parts.{eachNext};
 ghost use Rattle.lowering.specs.Rules as R;
 
 // The tree of an image as the main code, its End, and all that it needs in the workspace.
@@ -807,10 +809,11 @@ fn for_each(tree: &[u8], at: usize, ws: &mut [u32], st: State, looping: bool, le
     }
     let v = control::variable(tree, tree::first_at(tree, at), ws, s);
     let t = v.state;
-    if v.op == 0 {
-        return t;
+    let k = v.index;
+    match k {
+        EachIndex::Refused => t,
+        _ => each(tree, at, ws, t, k, looping, levels),
     }
-    each(tree, at, ws, t, v.op, v.index, looping, levels)
 }
 
 // Behind a ForEach's variable: the array, and the body once for each element.
@@ -819,18 +822,17 @@ fn each(
     at: usize,
     ws: &mut [u32],
     st: State,
-    op: u8,
-    k: u16,
+    k: EachIndex,
     looping: bool,
     levels: u16,
 ) -> State
-    ensures { λ r. ⌜ _≡_ {A = Held} (r, now (ws .exit)) (R.under (now (tree .entry)) levels (R.each (now (tree .entry))) at op k looping (st, now (ws .entry))) ⌝ }
+    ensures { λ r. ⌜ _≡_ {A = Held} (r, now (ws .exit)) (R.under (now (tree .entry)) levels (R.each (now (tree .entry))) at (eachNext k) looping (st, now (ws .entry))) ⌝ }
 {
     let b = tree::next_at(tree, tree::first_at(tree, at));
     let s = expr(tree, b, ws, st, looping, levels);
     let e = guard(ws, s, opcodes::EACH_BEGIN, 0, 0);
     let g = e.state;
-    let f = guard(ws, g, op, 0, k);
+    let f = control::each_next(ws, g, k);
     let i = f.state;
     let t = steps::enter_loop(i);
     let u = expr(tree, tree::next_at(tree, b), ws, t, true, levels);

@@ -99,7 +99,7 @@ module _ (tree : List ℕ) (E : ℕ → Bool → Step) (C : ℕ → NameRef → 
 
   -- what the code makes of a variable v that it found
   abbrev looping : ℕ → Bool → EachVariable × List ℕ → Held
-  looping p l v = cond (eqb (v .0 .op) 0) (v .0 .state, v .1) (R.each tree E C Z p (v .0 .op) (v .0 .index) l (v .0 .state, v .1))
+  looping p l v = cond (L.isRefused (v .0 .index)) (v .0 .state, v .1) (R.each tree E C Z p (L.eachNext (v .0 .index)) l (v .0 .state, v .1))
 
   module _ (p : ℕ) (xs : List Lowerings) (k : Children tree E C Z xs (countAt tree p) (firstAt tree p)) {c : Counts} (l : Bool) where
     pub coalesce-does : Does tree (P.two xs (failing 7) λ a b. fork N.handlerPush N.handlerPop handler+ (a .expr l) (b .expr l) ⨾ postInstruction (L.postBits tree p)) c (R.coalesce tree E C Z p l)
@@ -128,13 +128,13 @@ module _ (tree : List ℕ) (E : ℕ → Bool → Step) (C : ℕ → NameRef → 
 
     -- behind the variable
     each-body : {b e : Lowerings} (i : N.EachNext) (op v : ℕ) → Leads (N.eachNext i) op 0 v → Child tree E C Z b (nextAt tree (firstAt tree p)) → Child tree E C Z e (nextAt tree (nextAt tree (firstAt tree p)))
-        → Does tree (b .expr l ⨾ eached i (e .expr true) ⨾ constant (fold (L.postBits tree p) 0)) c (R.each tree E C Z p op v l)
+        → Does tree (b .expr l ⨾ eached i (e .expr true) ⨾ constant (fold (L.postBits tree p) 0)) c (R.each tree E C Z p (L.guard op 0 v) l)
     unfolding R.each
     each-body i op v leads cb ce = thens (cb .expr-is l c) (thens (each-does i leads (ce .expr-is true (opens false c))) (constant-does (fold (L.postBits tree p) 0)))
 
     variable-does : (n : ℕ) → Sound n tree (firstAt tree p) → length tree ≤ 6144 → {b e : Lowerings} → Child tree E C Z b (nextAt tree (firstAt tree p)) → Child tree E C Z e (nextAt tree (nextAt tree (firstAt tree p)))
         → Does tree (D.eachOf (payloadAt tree (firstAt tree p)) λ i. b .expr l ⨾ eached i (e .expr true) ⨾ constant (fold (L.postBits tree p) 0)) c (λ h. looping p l (R.variable tree (firstAt tree p) h))
-    unfolding D.eachOf R.variable R.variableTemp R.variableOf R.noVariable
+    unfolding D.eachOf R.variable R.variableTemp R.variableOf R.noVariable L.isRefused L.eachNext
     variable-does n sound short {b} {e} cb ce =
         let q = firstAt tree p in
         let f : N.EachNext → Lowering = λ i. b .expr l ⨾ eached i (e .expr true) ⨾ constant (fold (L.postBits tree p) 0) in

@@ -20,8 +20,8 @@ module _ (t : ℕ) where
   guard-requires : each-lts.Need-guard-requires (each-claims t) (each-at t) each.Post
   guard-requires c κs = tt
 
-  guard-requires-2 : each-lts.Need-guard-requires-2 (each-claims t) (each-at t) each.Post
-  guard-requires-2 c κs = tt
+  each-next-requires : each-lts.Need-each-next-requires (each-claims t) (each-at t) each.Post
+  each-next-requires c κs = tt
 
   enter-loop-requires : each-lts.Need-enter-loop-requires (each-claims t) (each-at t) each.Post
   enter-loop-requires c κs = tt
@@ -45,10 +45,10 @@ module _ (t : ℕ) where
   constant-requires c κs = tt
 
   same-length : each-lts.Need-same-length (each-claims t) (each-at t) each.Post
-  same-length c = c .before .before .constant .kept .0 ∙ c .before .before .before .before .before .before .before .before .close-each .kept .0 ∙ c .before .before .before .before .before .before .before .before .before .before .before .before .expr2 .kept .1 .1 .0 ∙ c .before .before .before .before .before .before .before .before .before .before .before .before .before .before .before .before .before .before .before .guard2 .kept .0 ∙ c .before .before .before .before .before .before .before .before .before .before .before .before .before .before .before .before .before .before .before .before .before .before .before .before .guard .kept .0 ∙ c .before .before .before .before .before .before .before .before .before .before .before .before .before .before .before .before .before .before .before .before .before .before .before .before .before .before .before .before .expr .kept .1 .1 .0
+  same-length c = c .before .before .constant .kept .0 ∙ c .before .before .before .before .before .before .before .before .close-each .kept .0 ∙ c .before .before .before .before .before .before .before .before .before .before .before .before .expr2 .kept .1 .1 .0 ∙ c .before .before .before .before .before .before .before .before .before .before .before .before .before .before .before .before .before .before .before .each-next .kept .0 ∙ c .before .before .before .before .before .before .before .before .before .before .before .before .before .before .before .before .before .before .before .before .before .before .before .before .guard .kept .0 ∙ c .before .before .before .before .before .before .before .before .before .before .before .before .before .before .before .before .before .before .before .before .before .before .before .before .before .before .before .before .expr .kept .1 .1 .0
 
   returns : each-lts.Need-returns (each-claims t) (each-at t) each.Post
-  returns c = each-all _ _ _ _ _ _ _ _ _ (c .before .before .before .before .before .before .before .before .before .before .before .before .before .before .before .before .before .before .before .before .before .before .before .before .before .before .before .before .before .before .before .first-at .ensures .0) (c .before .before .before .before .before .before .before .before .before .before .before .before .before .before .before .before .before .before .before .before .before .before .before .before .before .before .before .before .before .before .next-at .ensures .0) (c .before .before .before .before .before .before .before .before .before .before .before .before .before .before .before .before .before .before .before .before .before .before .before .before .before .before .before .before .expr .ensures) (c .before .before .before .before .before .before .before .before .before .before .before .before .before .before .before .before .before .before .before .before .before .before .before .before .guard .ensures) (c .before .before .before .before .before .before .before .before .before .before .before .before .before .before .before .before .before .before .before .guard2 .ensures) (c .before .before .before .before .before .before .before .before .before .before .before .before .before .before .before .enter-loop .ensures) (c .before .before .before .before .before .before .before .before .before .before .before .before .before .before .next-at2 .ensures .0) (c .before .before .before .before .before .before .before .before .before .before .before .before .expr2 .ensures) (c .before .before .before .before .before .before .before .before .close-each .ensures) (c .before .before .before .before .before .leave-loop .ensures) (c .before .before .before .folded .ensures) (c .before .before .constant .ensures)
+  returns c = each-all _ _ _ _ _ _ _ _ (c .before .before .before .before .before .before .before .before .before .before .before .before .before .before .before .before .before .before .before .before .before .before .before .before .before .before .before .before .before .before .before .first-at .ensures .0) (c .before .before .before .before .before .before .before .before .before .before .before .before .before .before .before .before .before .before .before .before .before .before .before .before .before .before .before .before .before .before .next-at .ensures .0) (c .before .before .before .before .before .before .before .before .before .before .before .before .before .before .before .before .before .before .before .before .before .before .before .before .before .before .before .before .expr .ensures) (c .before .before .before .before .before .before .before .before .before .before .before .before .before .before .before .before .before .before .before .before .before .before .before .before .guard .ensures) (c .before .before .before .before .before .before .before .before .before .before .before .before .before .before .before .before .before .before .before .each-next .ensures) (c .before .before .before .before .before .before .before .before .before .before .before .before .before .before .before .enter-loop .ensures) (c .before .before .before .before .before .before .before .before .before .before .before .before .before .before .next-at2 .ensures .0) (c .before .before .before .before .before .before .before .before .before .before .before .before .expr2 .ensures) (c .before .before .before .before .before .before .before .before .close-each .ensures) (c .before .before .before .before .before .leave-loop .ensures) (c .before .before .before .folded .ensures) (c .before .before .constant .ensures)
 
   pub each-part : {M : Type 1} → each-lts.Closed (each-claims t) (each-at t) each.Post M
-  each-part = each-lts.spec (each-claims t) (each-at t) each.Post first-at-requires next-at-requires expr-requires guard-requires guard-requires-2 enter-loop-requires next-at-requires-2 expr-requires-2 close-each-requires leave-loop-requires folded-requires constant-requires same-length returns
+  each-part = each-lts.spec (each-claims t) (each-at t) each.Post first-at-requires next-at-requires expr-requires guard-requires each-next-requires enter-loop-requires next-at-requires-2 expr-requires-2 close-each-requires leave-loop-requires folded-requires constant-requires same-length returns

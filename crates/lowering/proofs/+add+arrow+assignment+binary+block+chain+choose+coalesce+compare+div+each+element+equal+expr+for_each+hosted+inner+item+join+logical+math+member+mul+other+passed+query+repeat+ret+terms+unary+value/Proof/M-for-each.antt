@@ -32,20 +32,23 @@ module _ (t : ℕ) where
   variable-requires : for-each-lts.Need-variable-requires (for-each-claims t) (for-each-at t) for-each.Post
   variable-requires c κs = tt
 
+  enum-told : for-each-lts.Need-enum-told (for-each-claims t) (for-each-at t) for-each.Post
+  enum-told c = c .match .keys1
+
+  each-requires : for-each-lts.Need-each-requires (for-each-claims t) (for-each-at t) for-each.Post
+  each-requires c κs = (omega (arith, c .before .before .before .before .before .before .before .before .before .before .before .before .before .before .pre .0), tt)
+
   same-length-2 : for-each-lts.Need-same-length-2 (for-each-claims t) (for-each-at t) for-each.Post
   same-length-2 c = c .before .before .before .before .before .variable .kept .1 .1 .0
 
   returns-2 : for-each-lts.Need-returns-2 (for-each-claims t) (for-each-at t) for-each.Post
-  returns-2 c = each-none _ _ _ _ _ _ _ (c .before .before .before .before .before .before .before .before .before .before .before .flag .ensures) (c .before .before .before .before .before .before .before .before .before .before .not-float-only .ensures) (c .before .before .before .before .before .before .before .before .before .count-at .ensures) (c .before .before .before .before .before .before .before .before .if1 .left) (c .before .before .before .before .before .before .before .first-at .ensures .0) (c .before .before .before .before .before .variable .ensures) (c .if2 .taken)
-
-  each-requires : for-each-lts.Need-each-requires (for-each-claims t) (for-each-at t) for-each.Post
-  each-requires c κs = (omega (arith, c .before .before .before .before .before .before .before .before .before .before .before .before .before .before .before .pre .0), tt)
+  returns-2 c = each-none _ _ _ _ _ _ _ (c .before .before .before .before .before .before .before .before .before .before .before .flag .ensures) (c .before .before .before .before .before .before .before .before .before .before .not-float-only .ensures) (c .before .before .before .before .before .before .before .before .before .count-at .ensures) (c .before .before .before .before .before .before .before .before .if1 .left) (c .before .before .before .before .before .before .before .first-at .ensures .0) (c .before .before .before .before .before .variable .ensures) (c .enum-told .given .1)
 
   same-length-3 : for-each-lts.Need-same-length-3 (for-each-claims t) (for-each-at t) for-each.Post
-  same-length-3 c = c .before .before .each .kept .1 .1 .0 ∙ c .before .before .before .before .before .before .before .before .before .variable .kept .1 .1 .0
+  same-length-3 c = c .before .before .each .kept .1 .1 .0 ∙ c .before .before .before .before .before .before .before .before .variable .kept .1 .1 .0
 
   returns-3 : for-each-lts.Need-returns-3 (for-each-claims t) (for-each-at t) for-each.Post
-  returns-3 c = each-some _ _ _ _ _ _ _ (c .before .before .before .before .before .before .before .before .before .before .before .before .before .before .before .flag .ensures) (c .before .before .before .before .before .before .before .before .before .before .before .before .before .before .not-float-only .ensures) (c .before .before .before .before .before .before .before .before .before .before .before .before .before .count-at .ensures) (c .before .before .before .before .before .before .before .before .before .before .before .before .if1 .left) (c .before .before .before .before .before .before .before .before .before .before .before .first-at .ensures .0) (c .before .before .before .before .before .before .before .before .before .variable .ensures) (c .before .before .before .before .if2 .left) (c .before .before .each .ensures)
+  returns-3 c = each-some _ _ _ _ _ _ _ (c .before .before .before .before .before .before .before .before .before .before .before .before .before .before .flag .ensures) (c .before .before .before .before .before .before .before .before .before .before .before .before .before .not-float-only .ensures) (c .before .before .before .before .before .before .before .before .before .before .before .before .count-at .ensures) (c .before .before .before .before .before .before .before .before .before .before .before .if1 .left) (c .before .before .before .before .before .before .before .before .before .before .first-at .ensures .0) (c .before .before .before .before .before .before .before .before .variable .ensures) (c .before .before .before .before .match .keys2) (c .before .before .each .ensures)
 
   pub for-each-part : {M : Type 1} → for-each-lts.Closed (for-each-claims t) (for-each-at t) for-each.Post M
-  for-each-part = for-each-lts.spec (for-each-claims t) (for-each-at t) for-each.Post flag-requires not-float-only-requires count-at-requires failed-requires same-length returns first-at-requires variable-requires same-length-2 returns-2 each-requires same-length-3 returns-3
+  for-each-part = for-each-lts.spec (for-each-claims t) (for-each-at t) for-each.Post flag-requires not-float-only-requires count-at-requires failed-requires same-length returns first-at-requires variable-requires enum-told each-requires same-length-2 returns-2 same-length-3 returns-3

@@ -106,6 +106,7 @@ use Rattle.lowering.proofs.assign.target_refusal.Reads as target-refusa
 use Rattle.lowering.proofs.calls.begin_call.Reads as begin-call-reads
 use Rattle.lowering.proofs.calls.end_argument.Reads as end-argument-reads
 use Rattle.lowering.proofs.control.close_each.Reads as close-each-reads
+use Rattle.lowering.proofs.control.each_next.Reads as each-next-reads
 use Rattle.lowering.proofs.control.close_loop.Reads as close-loop-reads
 use Rattle.lowering.proofs.control.variable.Reads as variable-reads
 use Rattle.lowering.proofs.divisor.Reads as divisor-reads
@@ -169,7 +170,7 @@ abbrev pub μ-div : Measures 2 div-kinds.ps ℕ
 μ-div κs a = 200000 * a .1 .1 .1 .1 .1 .0 + 80000
 
 abbrev pub μ-each : Measures 2 each-kinds.ps ℕ
-μ-each κs a = 200000 * a .1 .1 .1 .1 .1 .1 .1 .0 + 70000
+μ-each κs a = 200000 * a .1 .1 .1 .1 .1 .1 .0 + 70000
 
 abbrev pub μ-element : Measures 2 element-kinds.ps ℕ
 μ-element κs a = 200000 * a .1 .1 .1 .1 .1 .0 + 80000
@@ -448,7 +449,7 @@ abbrev pub div-claims : ℕ → div-lts.Claims
 div-claims t = (count-at-reads.Asked, count-at-reads.Learnt, failed-reads.Asked, failed-reads.Learnt, first-at-reads.Asked, first-at-reads.Learnt, next-at-reads.Asked, next-at-reads.Learnt, expr-below t, expr.Post, divisor-reads.Asked, divisor-reads.Learnt, guard-reads.Asked, guard-reads.Learnt, operand-reads.Asked, operand-reads.Learnt, put-post-reads.Asked, put-post-reads.Learnt, pop-reads.Asked, pop-reads.Learnt, land-reads.Asked, land-reads.Learnt)
 
 abbrev pub each-claims : ℕ → each-lts.Claims
-each-claims t = (first-at-reads.Asked, first-at-reads.Learnt, next-at-reads.Asked, next-at-reads.Learnt, expr-below t, expr.Post, guard-reads.Asked, guard-reads.Learnt, enter-loop-reads.Asked, enter-loop-reads.Learnt, close-each-reads.Asked, close-each-reads.Learnt, leave-loop-reads.Asked, leave-loop-reads.Learnt, folded-reads.Asked, folded-reads.Learnt, constant-reads.Asked, constant-reads.Learnt)
+each-claims t = (first-at-reads.Asked, first-at-reads.Learnt, next-at-reads.Asked, next-at-reads.Learnt, expr-below t, expr.Post, guard-reads.Asked, guard-reads.Learnt, each-next-reads.Asked, each-next-reads.Learnt, enter-loop-reads.Asked, enter-loop-reads.Learnt, close-each-reads.Asked, close-each-reads.Learnt, leave-loop-reads.Asked, leave-loop-reads.Learnt, folded-reads.Asked, folded-reads.Learnt, constant-reads.Asked, constant-reads.Learnt)
 
 abbrev pub element-claims : ℕ → element-lts.Claims
 element-claims t = (get-u8-reads.Asked, get-u8-reads.Learnt, failed-reads.Asked, failed-reads.Learnt, count-at-reads.Asked, count-at-reads.Learnt, payload-at-reads.Asked, payload-at-reads.Learnt, not-float-only-reads.Asked, not-float-only-reads.Learnt, first-at-reads.Asked, first-at-reads.Learnt, expr-below t, expr.Post, array-put-reads.Asked, array-put-reads.Learnt)

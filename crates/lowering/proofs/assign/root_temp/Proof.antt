@@ -1,6 +1,7 @@
 use mathlib.Core.Path.{_∙_}
 use borrow.Author.Needs.{needs}
 use Rattle.builder.specs.Steps.{Held}
+use Rattle.lowering.specs.Kinds.{rootKind, rootIndex}
 use Rattle.lowering.specs.Rules.{storeAs, rootTemp}
 use Rattle.lowering.proofs.Others.{is-temp, not-temp}
 use Rattle.lowering.proofs.Laws.{gone}
@@ -20,7 +21,7 @@ same-length : tie.Need-same-length
 same-length c = search needs
 
 returns : tie.Need-returns
-unfolding rootTemp
+unfolding rootTemp rootKind rootIndex
 returns c = _∙_ {A = Held} (c .before .before .store-as .ensures) (not-temp {X = Held} _ _ (c .before .before .before .before .before .payload-at .ensures) (c .before .before .before .before .match .keys2))
 
 temp-requires : tie.Need-temp-requires
@@ -33,10 +34,10 @@ same-length-2 : tie.Need-same-length-2
 same-length-2 c = search needs
 
 returns-2 : tie.Need-returns-2
-unfolding rootTemp
+unfolding rootTemp rootKind rootIndex
 returns-2 c =
-    let a = c .before .before .before .before .before .before .before .before .before .before .before .before .before .before .before .args in
-    _∙_ {A = Held} (gone (λ k. storeAs (a .tree .now) 1 k (a .levels) (a .at) (a .count) (a .q .0)) (c .before .before .before .before .before .before .before .temp .ensures) (c .before .before .store-as2 .ensures)) (is-temp {X = Held} _ _ _ (c .before .before .before .before .before .before .before .before .before .before .before .before .payload-at .ensures) (c .before .before .before .before .before .before .before .before .before .before .p .given .1))
+    let a = c .before .before .before .before .before .before .before .before .before .before .before .before .before .before .before .before .args in
+    _∙_ {A = Held} (gone (λ k. storeAs (a .tree .now) 1 k (a .levels) (a .at) (a .count) (a .q .0)) (c .before .before .before .before .before .before .before .before .temp .ensures) (c .before .before .store-as2 .ensures)) (is-temp {X = Held} _ _ _ (c .before .before .before .before .before .before .before .before .before .before .before .before .before .payload-at .ensures) (c .before .before .before .before .before .before .before .before .before .before .before .p .given .1))
 
 pub root-temp-spec : {M : Type 1} → statement M
 root-temp-spec =

@@ -1,6 +1,7 @@
 use mathlib.Core.Path.{_∙_}
 use borrow.Author.Needs.{needs}
 use Rattle.builder.specs.Steps.{Held}
+use Rattle.lowering.specs.Kinds.{rootKind, rootIndex}
 use Rattle.lowering.specs.Rules.{storeAs, rootVar}
 use Rattle.lowering.proofs.Others.{is-entity, not-entity}
 use Rattle.lowering.proofs.Laws.{gone}
@@ -33,10 +34,10 @@ same-length-2 : tie.Need-same-length-2
 same-length-2 c = search needs
 
 returns-2 : tie.Need-returns-2
-unfolding rootVar
+unfolding rootVar rootKind rootIndex
 returns-2 c =
-    let a = c .before .before .before .before .before .before .before .before .before .before .before .before .before .before .before .args in
-    _∙_ {A = Held} (gone (λ k. storeAs (a .tree .now) 0 k (a .levels) (a .at) (a .count) (a .q .0)) (c .before .before .before .before .before .before .before .name .ensures) (c .before .before .store-as .ensures)) (is-entity {X = Held} _ _ _ (c .before .before .before .before .before .before .before .before .before .before .before .before .payload-at .ensures) (c .before .before .before .before .before .before .before .before .before .before .p .given .1))
+    let a = c .before .before .before .before .before .before .before .before .before .before .before .before .before .before .before .before .args in
+    _∙_ {A = Held} (gone (λ k. storeAs (a .tree .now) 0 k (a .levels) (a .at) (a .count) (a .q .0)) (c .before .before .before .before .before .before .before .before .name .ensures) (c .before .before .store-as .ensures)) (is-entity {X = Held} _ _ _ (c .before .before .before .before .before .before .before .before .before .before .before .before .before .payload-at .ensures) (c .before .before .before .before .before .before .before .before .before .before .before .p .given .1))
 
 pub root-var-spec : {M : Type 1} → statement M
 root-var-spec =

@@ -1,6 +1,7 @@
 use mathlib.Core.Path.{ap, _∙_}
 use borrow.Author.Needs.{needs}
 use Rattle.lowering.specs.Pools.{Found}
+use Rattle.lowering.specs.Kinds.{rootKind, rootIndex}
 use Rattle.lowering.specs.Parts.{instr, storeAdded}
 use Rattle.lowering.specs.Rules.{storeAs}
 use Rattle.lowering.proofs.Laws.{gone}
@@ -23,7 +24,7 @@ returns : tie.Need-returns
 unfolding storeAs
 returns c =
     let a = c .before .before .before .before .before .before .before .before .before .before .before .before .before .before .args in
-    gone (λ k. instr 12 0 k (a .q .0)) (_∙_ {A = Found} (c .before .before .before .before .before .before .add-store .ensures) (ap (storeAdded (a .kind) (a .index) (a .st .paths) (a .count)) (c .before .before .before .before .before .before .before .before .before .before .path-hashes .ensures))) (c .before .before .store-instr .ensures)
+    gone (λ k. instr 12 0 k (a .q .0)) (_∙_ {A = Found} (c .before .before .before .before .before .before .add-store .ensures) (ap (storeAdded (rootKind (a .root)) (rootIndex (a .root)) (a .st .paths) (a .count)) (c .before .before .before .before .before .before .before .before .before .before .path-hashes .ensures))) (c .before .before .store-instr .ensures)
 
 pub store-as-spec : {M : Type 1} → statement M
 store-as-spec =

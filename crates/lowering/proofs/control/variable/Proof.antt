@@ -3,7 +3,7 @@ use mathlib.Core.List.{List}
 use Prim.Native.Nat.{ℕ}
 use borrow.Author.Needs.{needs}
 use Rattle.lowering.specs.declared.control.EachVariable.{EachVariable}
-use Rattle.lowering.specs.Rules.{variableOf, variable}
+use Rattle.lowering.specs.Rules.{variableOf, nameKind, variable}
 use Rattle.lowering.proofs.Others.{is-entity, not-entity}
 use Rattle.lowering.proofs.control.variable.Statement.{statement}
 use Rattle.lowering.proofs.control.variable.Tie as tie
@@ -32,7 +32,7 @@ same-length-2 c = search needs
 
 returns-2 : tie.Need-returns-2
 unfolding variable variableOf
-returns-2 c = _∙_ {A = EachVariable × List ℕ} (ap (variableOf 44) (c .before .before .before .name .ensures)) (is-entity {X = EachVariable × List ℕ} _ _ _ (c .before .before .before .before .before .before .before .before .payload-at .ensures) (c .before .before .before .before .before .before .p .given .1))
+returns-2 c = _∙_ {A = EachVariable × List ℕ} (ap (variableOf nameKind) (c .before .before .before .before .name .ensures)) (is-entity {X = EachVariable × List ℕ} _ _ _ (c .before .before .before .before .before .before .before .before .before .payload-at .ensures) (c .before .before .before .before .before .before .before .p .given .1))
 
 pub variable-spec : {M : Type 1} → statement M
 variable-spec =

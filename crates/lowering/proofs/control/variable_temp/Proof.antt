@@ -3,7 +3,7 @@ use mathlib.Core.List.{List}
 use Prim.Native.Nat.{ℕ}
 use borrow.Author.Needs.{needs}
 use Rattle.lowering.specs.declared.control.EachVariable.{EachVariable}
-use Rattle.lowering.specs.Rules.{variableOf, variableTemp}
+use Rattle.lowering.specs.Rules.{variableOf, tempKind, variableTemp}
 use Rattle.lowering.proofs.Others.{is-temp, not-temp}
 use Rattle.lowering.proofs.control.variable_temp.Statement.{statement}
 use Rattle.lowering.proofs.control.variable_temp.Tie as tie
@@ -32,7 +32,7 @@ same-length-2 c = search needs
 
 returns-2 : tie.Need-returns-2
 unfolding variableTemp variableOf
-returns-2 c = _∙_ {A = EachVariable × List ℕ} (ap (variableOf 45) (c .before .before .before .temp .ensures)) (is-temp {X = EachVariable × List ℕ} _ _ _ (c .before .before .before .before .before .before .before .before .payload-at .ensures) (c .before .before .before .before .before .before .p .given .1))
+returns-2 c = _∙_ {A = EachVariable × List ℕ} (ap (variableOf tempKind) (c .before .before .before .before .temp .ensures)) (is-temp {X = EachVariable × List ℕ} _ _ _ (c .before .before .before .before .before .before .before .before .before .payload-at .ensures) (c .before .before .before .before .before .before .before .p .given .1))
 
 pub variable-temp-spec : {M : Type 1} → statement M
 variable-temp-spec =
