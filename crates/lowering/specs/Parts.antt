@@ -135,8 +135,8 @@ isRefused Refused = true
 
 -- 01, The program image: "in EachNextVar and EachNextTemp, A is the exit and B the variable"; a refused variable has neither
 unfoldable pub eachNext : EachIndex → Held → Found
-eachNext (Name n) = guard 44 0 (n .0)
-eachNext (Temp n) = guard 45 0 (n .0)
+eachNext (Name n) = guard O.EACH-NEXT-VAR 0 (n .0)
+eachNext (Temp n) = guard O.EACH-NEXT-TEMP 0 (n .0)
 eachNext Refused = λ h. (record { state = h .0; index = place (h .0) }, h .1)
 
 -- a call takes its number, and places for its arguments' starts
