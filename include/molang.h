@@ -19,7 +19,7 @@ extern "C" {
 /* The longest tree image. Give one byte more where you read a file of unknown length: it is then refused, and not cut off. */
 #define MOLANG_TREE_MOST 6144
 
-/* Room for the program image of every tree image, so that refusal 9 does not occur (counted in crates/bench, not proved). */
+/* Room for the program image of every tree image, so that refusal 9 does not occur: proved, IMAGE-ROOM in crates/semantics/specs/Room.antt. */
 #define MOLANG_IMAGE_ROOM 98304
 
 /* The nine questions in the order in which they are asked; the first that is answered by no is the refusal. */

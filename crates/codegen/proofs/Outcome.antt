@@ -12,14 +12,13 @@ use Rattle.wire.specs.Bytes.{Bytes}
 use Rattle.ast.specs.Node.{parse}
 use Rattle.ast.specs.Questions.{questions}
 use Rattle.program.specs.Image.{putProgram}
-use Rattle.program.proofs.Length.{image-length}
 use Rattle.semantics.specs.State.{first}
 use Rattle.semantics.specs.Answer as S
 use Rattle.ast.specs.Header.{settings}
 use Rattle.semantics.specs.Link.{lowered, program, refusalOf, programImage}
 use Rattle.semantics.specs.Demand3.{Agrees}
 use Rattle.semantics.proofs.Demand3.{demand3}
-use Rattle.semantics.proofs.Fitting.{program-fits, counted}
+use Rattle.semantics.proofs.Fitting.{program-fits, rest-fits}
 use Rattle.semantics.proofs.AcceptedTrees.{parsed-fits, parsed-short}
 use Rattle.card.specs.declared.Answer as C
 use Rattle.card.specs.Image.{imageOf, laid, answerOf}
@@ -63,8 +62,8 @@ module _ (tree words out : List ℕ) (small : Bytes tree) (passed : questions tr
   unfolding programImage
   image =
       let f = program-fits (settings tree) (parse tree) (parsed-fits tree small passed) (parsed-short tree small passed) in
-      let n = counted (settings tree) (parse tree) (parsed-fits tree small passed) (parsed-short tree small passed) in
-      image-is tree (R.lowered tree words .1) (sectionsOf (R.lowered tree words .0)) (program (settings tree) (parse tree)) (holds tree words small passed enough) f (image-length (program (settings tree) (parse tree)) f n)
+      let n = rest-fits (settings tree) (parse tree) (parsed-fits tree small passed) (parsed-short tree small passed) in
+      image-is tree (R.lowered tree words .1) (sectionsOf (R.lowered tree words .0)) (program (settings tree) (parse tree)) (holds tree words small passed enough) f n
 
   finished : (b : Bool) (card : List ℕ) (a : C.Answer) (out′ : List ℕ) → a ≡ cond b (record { number = 0; length = length card }) (record { number = 9; length = 0 }) → out′ ≡ cond b (card ++ drop (length card) out) out
       → (told a ≡ cond b (record { number = 0; length = length card }) (record { number = 9; length = 0 })) × (out′ ≡ S.written (told a .number) card out)

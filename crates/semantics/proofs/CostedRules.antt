@@ -36,8 +36,8 @@ module _ (w : Weight) where
   _then-c_ a b = C._then-c_ w a b
 
   -- what a node pays for itself (a name also for its entries); and for its parent an instruction and an argument
-  abbrev named : ℕ
-  named = w .na + w .te + w .me + w .sm + w .pa
+  abbrev named : Name → ℕ
+  named n = w .na n + w .te + w .me n + w .sm + w .pa
 
   unfoldable pub pay : Payload → ℕ
   pay pNone = 0
@@ -45,7 +45,7 @@ module _ (w : Weight) where
   pay (pHash v) = 0
   pay (pMath v) = 0
   pay (pQuery i m) = 0
-  pay (pName k n) = named
+  pay (pName k n) = named n
 
   abbrev pub own : ℕ
   own = w .i + w .i + w .co + w .po + w .ha + w .sa + w .ca
@@ -60,7 +60,7 @@ module _ (w : Weight) where
 
   -- readings of a payload: the name read is paid for
   module _ {X : Type 0} (R : X → Type 0) where
-    name-c : (k : ℕ) (v : Payload) {d : X} {f : Name → X} → R d → ((n : Name) → named ≤ pay v → R (f n)) → R (asName k v d f)
+    name-c : (k : ℕ) (v : Payload) {d : X} {f : Name → X} → R d → ((n : Name) → named n ≤ pay v → R (f n)) → R (asName k v d f)
     unfolding asName pay cases
     name-c k pNone h i = h
     name-c k (pFloat v) h i = h

@@ -9,6 +9,7 @@ use Rattle.ast.specs.Tree.{Name}
 use Rattle.numeric.specs.Post.{Post, isIdentity}
 use Rattle.program.specs.Instruction.{post, Guard, EachNext, Instruction, plain, loopEnd, jump, loopCheck}
 use Rattle.program.specs.Program.{Counts, MemberStore}
+pub use Rattle.program.proofs.Length.{sum, weigh}
 use Rattle.semantics.specs.Link.{offsetsOf}
 use Rattle.semantics.specs.Lowering.{fill}
 use Rattle.semantics.specs.Machine.{go}
@@ -20,44 +21,51 @@ use Rattle.semantics.specs.Pieces as Q
 
 -- Sizes: what a tree's lowering adds to the code and the pools, by symbolic weights, so that every size is one induction. Assumes nothing.
 
--- what an entry weighs: an instruction, a constant, a post, a hash, a name, a temp, a member, a store (sa for its assignment, sa and sm for its target), a path's entry, a call, an argument
+-- what an entry weighs: an instruction, a constant, a post, a hash, a name, a temp, a member (by its own name), a store (sa for its assignment,
+-- sa and sm for its target), a path's entry, a call, an argument
 pub record Weight : Type 0 where
   pub i : ℕ
   pub co : ℕ
   pub po : ℕ
   pub ha : ℕ
-  pub na : ℕ
+  pub na : Name → ℕ
   pub te : ℕ
-  pub me : ℕ
+  pub me : Name → ℕ
   pub sa : ℕ
   pub sm : ℕ
   pub pa : ℕ
   pub ca : ℕ
   pub ar : ℕ
 
-module _ {A : Type 0} (k : ℕ) where
-  abbrev pub weigh : List A → ℕ
-  weigh [] = 0
-  weigh (x ∷ xs) = k + weigh xs
+module _ {A : Type 0} (f : A → ℕ) where
+  pub sum-append : (xs ys : List A) → sum f (xs ++ ys) ≡ sum f xs + sum f ys
+  sum-append [] ys = omega arith
+  sum-append (x ∷ xs) ys = let h = sum-append xs ys in omega arith
 
-  pub weigh-append : (xs ys : List A) → weigh (xs ++ ys) ≡ weigh xs + weigh ys
-  weigh-append [] ys = omega arith
-  weigh-append (x ∷ xs) ys = let h = weigh-append xs ys in omega arith
-
-  weigh-intern : {K : Type 0} (key : A → K) (dec : (a b : K) → Dec (a ≡ b)) (v : A) (xs : List A) → weigh (intern key dec v xs) ≤ weigh xs + k
+  sum-intern : {K : Type 0} (key : A → K) (dec : (a b : K) → Dec (a ≡ b)) (v : A) (xs : List A) → sum f (intern key dec v xs) ≤ sum f xs + f v
   unfolding intern
-  weigh-intern key dec v [] = omega arith
-  weigh-intern key dec v (x ∷ xs) = go (dec (key x) (key v)) (weigh-intern key dec v xs)
+  sum-intern key dec v [] = omega arith
+  sum-intern key dec v (x ∷ xs) = go (dec (key x) (key v)) (sum-intern key dec v xs)
     where
-      go : (d : Dec (key x ≡ key v)) → weigh (intern key dec v xs) ≤ weigh xs + k → weigh (elim d [ yes p ↦ x ∷ xs | no h ↦ x ∷ intern key dec v xs ]) ≤ k + weigh xs + k
+      go : (d : Dec (key x ≡ key v)) → sum f (intern key dec v xs) ≤ sum f xs + f v → sum f (elim d [ yes p ↦ x ∷ xs | no h ↦ x ∷ intern key dec v xs ]) ≤ f x + sum f xs + f v
       go (yes p) h = omega arith
       go (no p) h = omega arith
+
+pub weigh-append : {A : Type 0} (k : ℕ) (xs ys : List A) → weigh k (xs ++ ys) ≡ weigh k xs + weigh k ys
+weigh-append k = sum-append (λ x. k)
+
+weigh-intern : {A K : Type 0} (k : ℕ) (key : A → K) (dec : (a b : K) → Dec (a ≡ b)) (v : A) (xs : List A) → weigh k (intern key dec v xs) ≤ weigh k xs + k
+weigh-intern k = sum-intern (λ x. k)
 
 pub weigh-map : {A B : Type 0} (k : ℕ) (f : A → B) (xs : List A) → weigh k (map f xs) ≡ weigh k xs
 weigh-map k f [] = refl
 weigh-map k f (x ∷ xs) = let h = weigh-map k f xs in omega arith
 
 module _ (w : Weight) where
+  -- a member weighs by its own name
+  abbrev pub memberWeight : MemberRead → ℕ
+  memberWeight r = w .me (r .own)
+
   abbrev pub stored : List MemberStore → ℕ
   stored [] = 0
   stored (v ∷ vs) = w .sa + w .sa + w .sm + weigh (w .pa) (v .path) + stored vs
@@ -89,7 +97,7 @@ module _ (w : Weight) where
   asked-fill (suc k) o (x ∷ xs) = let h = asked-fill k o xs in omega arith
 
   unfoldable pub sz : List ℕ → List Post → List ℕ → List Name → List ℕ → List MemberRead → List MemberStore → List CallInfo → List (List Item) → ℕ
-  sz a b c d e f g h j = weigh (w .co) a + weigh (w .po) b + weigh (w .ha) c + weigh (w .na) d + weigh (w .te) e + weigh (w .me) f + stored g + asked h + apart j
+  sz a b c d e f g h j = weigh (w .co) a + weigh (w .po) b + weigh (w .ha) c + sum (w .na) d + weigh (w .te) e + sum memberWeight f + stored g + asked h + apart j
 
   abbrev pub size : State → ℕ
   size s = sz (s .pools .consts) (s .pools .posts) (s .pools .hashes) (s .pools .names) (s .pools .temps) (s .pools .members) (s .pools .stores) (s .pools .calls) (s .pools .segments)
@@ -176,12 +184,12 @@ module _ (w : Weight) where
   pub withHash-c : (v : ℕ) (g : ℕ → Lowering) {k : ℕ} → ((x : ℕ) → Cost (g x) k) → Cost (withHash v g) (w .ha + k)
   withHash-c v g h = record { by = λ c b n s. into (w .ha) (h (slot itself ℕ-discrete v 0 (s .pools .hashes))) c b n s (set-pools (set-hashes (intern itself ℕ-discrete v (s .pools .hashes)) (s .pools)) s) (withHash-grow v s) }
 
-  pub withName-grow : (v : Name) (s : State) → size (set-pools (set-names (intern hashKey ℕ-discrete v (s .pools .names)) (s .pools)) s) ≤ size s + w .na
+  pub withName-grow : (v : Name) (s : State) → size (set-pools (set-names (intern hashKey ℕ-discrete v (s .pools .names)) (s .pools)) s) ≤ size s + w .na v
   unfolding sz
-  withName-grow v s = let j = weigh-intern (w .na) hashKey ℕ-discrete v (s .pools .names) in omega arith
+  withName-grow v s = let j = sum-intern (w .na) hashKey ℕ-discrete v (s .pools .names) in omega arith
 
-  pub withName-c : (v : Name) (g : ℕ → Lowering) {k : ℕ} → ((x : ℕ) → Cost (g x) k) → Cost (withName v g) (w .na + k)
-  withName-c v g h = record { by = λ c b n s. into (w .na) (h (slot hashKey ℕ-discrete v 0 (s .pools .names))) c b n s (set-pools (set-names (intern hashKey ℕ-discrete v (s .pools .names)) (s .pools)) s) (withName-grow v s) }
+  pub withName-c : (v : Name) (g : ℕ → Lowering) {k : ℕ} → ((x : ℕ) → Cost (g x) k) → Cost (withName v g) (w .na v + k)
+  withName-c v g h = record { by = λ c b n s. into (w .na v) (h (slot hashKey ℕ-discrete v 0 (s .pools .names))) c b n s (set-pools (set-names (intern hashKey ℕ-discrete v (s .pools .names)) (s .pools)) s) (withName-grow v s) }
 
   pub withSlot-grow : (v : ℕ) (s : State) → size (set-pools (set-temps (intern itself ℕ-discrete v (s .pools .temps)) (s .pools)) s) ≤ size s + w .te
   unfolding sz
@@ -190,14 +198,14 @@ module _ (w : Weight) where
   pub withSlot-c : (v : ℕ) (g : ℕ → Lowering) {k : ℕ} → ((x : ℕ) → Cost (g x) k) → Cost (withSlot v g) (w .te + k)
   withSlot-c v g h = record { by = λ c b n s. into (w .te) (h (slot itself ℕ-discrete v 0 (s .pools .temps))) c b n s (set-pools (set-temps (intern itself ℕ-discrete v (s .pools .temps)) (s .pools)) s) (withSlot-grow v s) }
 
-  pub withMember-grow : (v : MemberRead) (s : State) → size (set-pools (set-members (intern readKey pair-discrete v (s .pools .members)) (s .pools)) s) ≤ size s + w .me
+  pub withMember-grow : (v : MemberRead) (s : State) → size (set-pools (set-members (intern readKey pair-discrete v (s .pools .members)) (s .pools)) s) ≤ size s + memberWeight v
   unfolding sz
-  withMember-grow v s = let j = weigh-intern (w .me) readKey pair-discrete v (s .pools .members) in omega arith
+  withMember-grow v s = let j = sum-intern memberWeight readKey pair-discrete v (s .pools .members) in omega arith
 
-  pub withMember-c : (v : MemberRead) (g : ℕ → Lowering) {k : ℕ} → ((x : ℕ) → Cost (g x) k) → Cost (withMember v g) (w .me + k)
-  withMember-c v g h = record { by = λ c b n s. into (w .me) (h (slot readKey pair-discrete v 0 (s .pools .members))) c b n s (set-pools (set-members (intern readKey pair-discrete v (s .pools .members)) (s .pools)) s) (withMember-grow v s) }
+  pub withMember-c : (v : MemberRead) (g : ℕ → Lowering) {k : ℕ} → ((x : ℕ) → Cost (g x) k) → Cost (withMember v g) (memberWeight v + k)
+  withMember-c v g h = record { by = λ c b n s. into (memberWeight v) (h (slot readKey pair-discrete v 0 (s .pools .members))) c b n s (set-pools (set-members (intern readKey pair-discrete v (s .pools .members)) (s .pools)) s) (withMember-grow v s) }
 
-  pub withTemp-c : (v : Name) (g : ℕ → Lowering) {k : ℕ} → ((x : ℕ) → Cost (g x) k) → Cost (withTemp v g) (w .na + (w .te + k))
+  pub withTemp-c : (v : Name) (g : ℕ → Lowering) {k : ℕ} → ((x : ℕ) → Cost (g x) k) → Cost (withTemp v g) (w .na v + (w .te + k))
   withTemp-c v g h = flagged-c _ (withName-c v (λ k. withSlot k g) (λ k. withSlot-c k g h))
 
   pub store-grow : (v : MemberStore) (s : State) → size (set-pools (set-stores (s .pools .stores ++ (v ∷ [])) (s .pools)) s) ≤ size s + (w .sa + w .sa + w .sm + weigh (w .pa) (v .path))

@@ -1,21 +1,21 @@
-use Rattle.program.proofs.Length.{Counted, image-length}
+use Rattle.program.proofs.Length.{program-length, image-length}
 use Rattle.program.proofs.ReadBack.{read-image}
-use Rattle.program.specs.Image.{image, read}
 use mathlib.Core.Path.{_≡_}
 use mathlib.Core.Bool.{Bool, true, false, cond}
 use mathlib.Core.List.{List, [], _∷_, map}
-use Prim.Native.Nat.{ℕ, _≤_, _<_, _+_}
+use Prim.Native.Nat.{ℕ, _≤_, _<_, _+_, _^_}
 use native.Mathlib.Omega.{arith}
 use lib.ListN.{length}
 use Rattle.ast.specs.Tree.{Name, Payload, pNone, pFloat, pHash, pMath, pName, pQuery, Tree}
 use Rattle.program.specs.Fits.{Below, Every, FitInstruction, FitName, FitMember, rootIndex, FitStore, FitCall, FitProgram}
-use Rattle.program.specs.Image.{image, read}
+use Rattle.program.specs.Image.{putProgram, image, read}
 use Rattle.program.specs.Instruction.{hash, end}
 use Rattle.program.specs.Kinds.{inFloatLoop}
 use Rattle.program.specs.Program.{MemberStore}
 use Rattle.semantics.proofs.CostedRules.{pay, own, sized}
 use Rattle.semantics.proofs.Costs.{stored, apart, sz}
 use Rattle.semantics.proofs.FitTrees.{TreeFits}
+use Rattle.semantics.proofs.Lengths.{length-bytes}
 use Rattle.semantics.proofs.RangedJumps.{fits-end}
 use Rattle.semantics.proofs.RangedRules.{tree-r}
 use Rattle.semantics.proofs.Ranges.{Fits, ones, total, FitText, FitRead, FitInfo, Good, Done, Ranged, past-weigh, shift, not-fit, every-append, _then-r_, put-r}
@@ -115,9 +115,6 @@ module _ (S : Settings) (t : Tree) (f : TreeFits t) (short : bytes t ≤ 6137) w
   unfolding lowered
   deepest = let h = total-bytes S t in whole .deep (record { operands = 65535; loops = 65535; handlers = 65535 }) nothing-open false 0 empty (omega arith) (omega arith)
 
-  pub counted : Counted 2000 (program S t)
-  counted = let z = sizes S t in let n = nodes-bytes t in record { code = omega arith; consts = omega arith; posts = omega arith; hashes = omega arith; names = omega arith; temps = omega arith; members = omega arith; stores = omega arith; calls = omega arith }
-
   pub program-fits : FitProgram (program S t)
   unfolding program link sz finalFlags
   program-fits =
@@ -125,25 +122,30 @@ module _ (S : Settings) (t : Tree) (f : TreeFits t) (short : bytes t ≤ 6137) w
       let b = past (x .code) 0 in
       let z = sizes S t in
       let n = nodes-bytes t in
-      let c = counted in
       let g = done .good in
       let d = deepest in
       let k = total-bytes S t in
       let e = past-weigh (x .code) 0 in
       let fl = final-fit (inFloatLoop (x .state .deepest .operands) (x .state .deepest .loops) (x .state .deepest .handlers) (length (x .state .pools .temps))) (x .state .flags) (g .flags) in
       record {
-        code = record { short = let i = c .code in omega arith; each = every-append FitInstruction (map (settle 0 0 0) (x .code)) (place-segments (x .state .pools .segments) b) (settled 0 (omega arith) (x .code) (done .fits)) (placed (x .state .pools .segments) b (omega arith) (g .segments)) };
-        consts = record { short = let i = c .consts in omega arith; each = g .consts };
-        posts = record { short = let i = c .posts in omega arith; each = (record { scale = omega arith; offset = omega arith }, g .posts) };
-        hashes = record { short = let i = c .hashes in omega arith; each = g .hashes };
-        names = record { short = let i = c .names in omega arith; each = every-weak FitText FitName fit-name (x .state .pools .names) (g .names) };
-        temps = record { short = let i = c .temps in omega arith; each = g .temps };
-        members = record { short = let i = c .members in omega arith; each = every-map FitRead FitMember memberEntry fit-member (x .state .pools .members) (g .members) };
-        stores = record { short = let i = c .stores in omega arith; each = fit-stores (x .state .pools .stores) (omega arith) (g .stores) };
-        calls = record { short = let i = c .calls in omega arith; each = fit-calls b (omega arith) (x .state .pools .calls) (let i = z .args in omega arith) (g .calls) };
+        code = record { short = let i = z .code in omega arith; each = every-append FitInstruction (map (settle 0 0 0) (x .code)) (place-segments (x .state .pools .segments) b) (settled 0 (omega arith) (x .code) (done .fits)) (placed (x .state .pools .segments) b (omega arith) (g .segments)) };
+        consts = record { short = let i = z .consts in omega arith; each = g .consts };
+        posts = record { short = let i = z .posts in omega arith; each = (record { scale = omega arith; offset = omega arith }, g .posts) };
+        hashes = record { short = let i = z .hashes in omega arith; each = g .hashes };
+        names = record { short = let i = z .names in omega arith; each = every-weak FitText FitName fit-name (x .state .pools .names) (g .names) };
+        temps = record { short = let i = z .temps in omega arith; each = g .temps };
+        members = record { short = let i = z .members in omega arith; each = every-map FitRead FitMember memberEntry fit-member (x .state .pools .members) (g .members) };
+        stores = record { short = let i = z .stores in omega arith; each = fit-stores (x .state .pools .stores) (omega arith) (g .stores) };
+        calls = record { short = let i = z .calls in omega arith; each = fit-calls b (omega arith) (x .state .pools .calls) (let i = z .args in omega arith) (g .calls) };
         depths = record { operands = omega arith; loops = omega arith; handlers = omega arith };
         flags = omega arith;
       }
 
+  pub image-short : length (image (program S t)) ≤ 85235
+  image-short = let h = length-bytes S t (done .good .members) in omega arith
+
+  pub rest-fits : length (putProgram (program S t) []) < 256 ^ 4
+  rest-fits = let h = image-short in let i = image-length (program S t) in let j = program-length (program S t) in omega arith
+
   pub image-back : read (image (program S t)) ≡ program S t
-  image-back = read-image (program S t) program-fits (image-length (program S t) program-fits counted)
+  image-back = read-image (program S t) program-fits rest-fits

@@ -18,10 +18,12 @@ pub mod RangedJumps
 pub mod RangedCalls
 pub mod FitTrees
 pub mod RangedRules
+pub mod Lengths
 pub mod Fitting
 pub mod AcceptedTrees
 pub mod Demand3
 pub mod Regions
+pub mod Room
 pub mod Examples
 pub mod BenchPieces
 pub mod Slips

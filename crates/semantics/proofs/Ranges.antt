@@ -25,7 +25,7 @@ use Rattle.semantics.specs.Walk.{after}
 
 -- everything weighs 1, but an argument's start nothing
 abbrev pub ones : Weight
-ones = record { i = 1; co = 1; po = 1; ha = 1; na = 1; te = 1; me = 1; sa = 1; sm = 1; pa = 1; ca = 1; ar = 0 }
+ones = record { i = 1; co = 1; po = 1; ha = 1; na = λ n. 1; te = 1; me = λ n. 1; sa = 1; sm = 1; pa = 1; ca = 1; ar = 0 }
 
 abbrev pub total : Lowered → ℕ
 total x = weigh 1 (x .code) + size ones (x .state)

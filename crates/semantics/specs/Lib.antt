@@ -10,5 +10,6 @@ pub mod Link
 pub mod Answer
 pub mod Demand3
 pub mod Regions
+pub mod Room
 pub mod Examples
 pub mod BenchPieces
