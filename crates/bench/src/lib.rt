@@ -4,6 +4,7 @@ pub mod listing;
 
 ghost use mathlib.Core.Path.{_≡_};
 ghost use lib.ListN.{length};
+ghost use Rattle.semantics.specs.Room.{IMAGE-ROOM};
 
 const STDERR: i32 = 2;
 
@@ -21,14 +22,10 @@ pub fn workspace() -> [u32; 16384]
     [0; 16384]
 }
 
-// Room for the program image of every tree image: question 9 is never answered by no.
-// A tree image has 6,144 bytes at most, 7 of them in no node, so at most 383 nodes of 16 bytes or more. A node gives at most three instructions
-// (24 bytes), a constant (4), a post (8), a hash (8), a store (5), a call (5) and an argument's start (4): 22,214 for all. A node with a name takes
-// 25 bytes and its text, so there are at most 245 of these; each gives most as a member: 14 bytes, its own text, and the text of its path's last member,
-// which every member of the path repeats, 255 bytes at most: 65,905 for all, and 6,137 for their own texts. The header, the nine counts, slot 0 and
-// the closing fields take 58. Together that is 94,314; the longest image that was found has 56,827.
+// Room for the program image of every tree image: `ImageRoom` in crates/semantics/specs/Room.antt is proved, so question 9 is never answered by no.
+// The longest image that was found has 56,827 bytes.
 pub fn output() -> [u8; 98304]
-    ensures { λ r. ⌜ 98304 ≡ length r ⌝ }
+    ensures { λ r. ⌜ IMAGE-ROOM ≡ length r ⌝ }
 {
     [0; 98304]
 }

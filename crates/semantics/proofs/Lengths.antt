@@ -15,7 +15,7 @@ use Rattle.semantics.proofs.Sizes.{held, bytes, mass, all-paid, scaled,
 use Rattle.semantics.proofs.Ranges.{FitRead}
 use Rattle.semantics.specs.Link.{offsetsOf, place-call, memberEntry, lowered, link, program}
 use Rattle.semantics.specs.Positions.{_⊕_, past}
-use Rattle.semantics.specs.Rule.{Settings}
+use Rattle.ast.specs.Header.{Settings}
 use Rattle.semantics.specs.State.{CallInfo, MemberRead}
 
 -- what an entry takes in the image; a member's report, the last text of its path, has 255 bytes at most

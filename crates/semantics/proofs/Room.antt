@@ -8,7 +8,8 @@ use lib.ListN.{length}
 use Rattle.wire.specs.Bytes.{Bytes}
 use Rattle.ast.specs.Node.{parse}
 use Rattle.ast.specs.Questions.{questions}
-use Rattle.semantics.specs.Link.{settings, refusalOf, programImage}
+use Rattle.ast.specs.Header.{settings}
+use Rattle.semantics.specs.Link.{refusalOf, programImage}
 use Rattle.semantics.specs.State.{first}
 use Rattle.semantics.specs.Answer.{answerFrom, answer}
 use Rattle.semantics.specs.Room.{IMAGE-ROOM, ImageRoom, Enough}
