@@ -25,7 +25,9 @@ record Findings : Type 0 where
   outcome : Outcome
 
 abbrev found : Piece → Findings
-found p = let a = answer (p .tree) 16384 65536 in record { size = length (p .tree); outcome = outcomeOf (a .number) (a .length) (programImage (p .tree)) }
+found p =
+    let a = answer (p .tree) 16384 65536 in
+    record { size = length (p .tree); outcome = outcomeOf (a .number) (a .length) (programImage (p .tree)) }
 
 abbrev given : Piece → Findings
 given p = record { size = p .size; outcome = p .outcome }

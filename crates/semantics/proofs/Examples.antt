@@ -1,4 +1,4 @@
--- The worked examples E1 to E39, computed from the definitions. Assumes nothing.
+-- The worked examples, computed from the definitions. Assumes nothing.
 use mathlib.Core.Path.{_≡_, refl}
 use mathlib.Core.Bool.{Bool}
 use mathlib.Core.List.{List, map}
@@ -10,7 +10,8 @@ use Rattle.semantics.specs.Run.{Behaviour, behaviour}
 use Rattle.semantics.specs.Machine.{follow, start}
 use Rattle.semantics.specs.Link.{programImage}
 use Rattle.semantics.specs.Demand3.{treeBehaviour}
-use Rattle.semantics.specs.Examples.{Example, examples}
+use Rattle.semantics.specs.Example.{Example}
+use Rattle.semantics.specs.Examples.{examples}
 
 -- a tree's program image, and on each list of outcomes the behaviour of the walk and of the step machine over the program's bytes
 record Findings : Type 0 where
@@ -23,12 +24,16 @@ abbrev runs : List ℕ → List Bool → Option Behaviour
 runs card outcomes = Option·map (behaviour outcomes) (follow (read card) 300 (start outcomes))
 
 abbrev found : Example → Findings
-found x = record { card = programImage (x .tree); walks = map (λ t. treeBehaviour (x .tree) (t .outcomes)) (x .trials); machines = map (λ t. runs (x .card) (t .outcomes)) (x .trials) }
+found x = record {
+  card = programImage (x .tree);
+  walks = map (λ t. treeBehaviour (x .tree) (t .outcomes)) (x .trials);
+  machines = map (λ t. runs (x .card) (t .outcomes)) (x .trials);
+}
 
 abbrev given : Example → Findings
 given x = record { card = x .card; walks = map (λ t. t .shows) (x .trials); machines = map (λ t. some (t .shows)) (x .trials) }
 
--- E1 to E39 of the readings: the lowering, the walk and the step machine, each as the example gives it
+-- E1 to E49: the lowering, the walk and the step machine, each as the example gives it
 worked-examples : map found examples ≡ map given examples
 unfolding computing
 worked-examples = refl

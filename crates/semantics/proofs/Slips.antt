@@ -25,17 +25,27 @@ record Slip : Type 0 where
 
 -- "Folding a statement list's last constant with scale (it is the offset alone)": offset 1.0 under an infinite scale, which no fold keeps
 abbrev foldedList : Slip
-foldedList = record { tree = node 28 (post 0x7f80_0000 0x3f80_0000) pNone nil; lists = record { code = word 1 0 0 0 ∷ word 48 0 0 0 ∷ []; consts = 0x3f80_0000 ∷ []; hashes = [] } }
+foldedList = record {
+  tree = node 28 (post 0x7f80_0000 0x3f80_0000) pNone nil;
+  lists = record { code = word 1 0 0 0 ∷ word 48 0 0 0 ∷ []; consts = 0x3f80_0000 ∷ []; hashes = [] };
+}
 
 -- "EqConst from a Hash payload's low 32 bits (equality gives EqHash ..)"
 abbrev hashedEqual : Slip
-hashedEqual = record { tree = node 22 identity (pHash 0x1_0000_0002) (cons (leaf this) nil); lists = record { code = word 4 0 0 0 ∷ word 27 0 0 0 ∷ word 48 0 0 0 ∷ []; consts = []; hashes = 0x1_0000_0002 ∷ [] } }
+hashedEqual = record {
+  tree = node 22 identity (pHash 0x1_0000_0002) (cons (leaf this) nil);
+  lists = record { code = word 4 0 0 0 ∷ word 27 0 0 0 ∷ word 48 0 0 0 ∷ []; consts = []; hashes = 0x1_0000_0002 ∷ [] };
+}
 
 -- "A jump in an argument without its segment's start": the argument stands from 2 on
 abbrev argumentJump : Slip
 argumentJump = record {
   tree = node query identity (pQuery 0 0) (cons (pair conditional (leaf this) (float 0x3f80_0000)) nil);
-  lists = record { code = word 39 0 0 0 ∷ word 48 0 0 0 ∷ word 4 0 0 0 ∷ word 33 0 6 0 ∷ word 1 0 0 0 ∷ word 32 0 7 0 ∷ word 1 0 1 0 ∷ word 48 0 0 0 ∷ []; consts = 0x3f80_0000 ∷ 0 ∷ []; hashes = [] };
+  lists = record {
+    code = word 39 0 0 0 ∷ word 48 0 0 0 ∷ word 4 0 0 0 ∷ word 33 0 6 0 ∷ word 1 0 0 0 ∷ word 32 0 7 0 ∷ word 1 0 1 0 ∷ word 48 0 0 0 ∷ [];
+    consts = 0x3f80_0000 ∷ 0 ∷ [];
+    hashes = [];
+  };
 }
 
 -- "Storing under MemberAccessor when its payload is Entity (it is StoreVar)"

@@ -11,5 +11,10 @@ pub mod Answer
 pub mod Demand3
 pub mod Regions
 pub mod Room
+pub mod Example
+pub mod ExamplesMissing
+pub mod ExamplesControl
+pub mod ExamplesRules
+pub mod ExamplesEvents
 pub mod Examples
 pub mod BenchPieces
