@@ -1,27 +1,33 @@
 // The tree image: the rule of each operator code.
 pub mod header;
 pub mod operators;
-mod rules;
+pub mod rules;
 
 ghost use mathlib.Core.Path.{_≡_};
-ghost use Rattle.ast.specs.Rules.{ruleOf, known};
+ghost use Prim.Native.Nat.{_%_};
+ghost use lib.ListN.{getD};
+ghost use Rattle.ast.specs.Rules.{ruleOf};
 
-// The rule of an operator code: 1 to 51, 52 for a refusal, 0 where the code is unknown. A read copies the whole table, so 1 to 51 do without.
+// The rule of an operator code: 1 to 51, 52 for a refusal, 0 where the code is unknown. A read lays out what it can reach of the table, so
+// below 64, where every code with a rule of its own stands, it reaches the first quarter alone.
 pub fn rule(op: u8) -> u8
     ensures { λ r. ⌜ r ≡ ruleOf op ⌝ }
 {
-    if op <= 51 {
-        return op;
+    if op < 64 {
+        return low_rule(op);
     }
     rules::RULES[op as usize]
 }
 
-// Whether a code has a rule or a refusal. By ranges, since a call of `rule` copies its table.
-pub fn is_known(op: u8) -> bool
-    ensures { λ r. ⌜ r ≡ known op ⌝ }
+fn low_rule(op: u8) -> u8
+    ensures { λ r. ⌜ r ≡ ruleOf (op % 64) ⌝ }
 {
-    if op <= 51 {
-        return op != 0;
-    }
-    64 <= op && op <= 123
+    rules::RULES[(op % 64) as usize]
+}
+
+// The rule by a lent copy of the table, for who asks for many.
+pub fn rule_in(table: &[u8; 256], op: u8) -> u8
+    ensures { λ r. ⌜ r ≡ getD (now (table .entry)) op 0 ⌝ }
+{
+    table[op as usize]
 }

@@ -1,16 +1,18 @@
-// Questions 2 to 4 on a tree image.
+// Questions 2 to 4 on a tree image. The table of rules is laid out once for an image, and lent.
 use ast::header;
+use ast::rules::RULES;
 ghost use mathlib.Core.Path.{_≡_};
 ghost use Rattle.ast.specs.Node.{sizeAt};
+ghost use Rattle.ast.specs.Rules.{HasRules};
 ghost use Rattle.ast.specs.Questions.{fits, row, filled, whole, questions};
 
 // The node at `p`, whose payload takes `size` bytes, is known, holds its own fields, and ends at `end` or before.
-fn fits_at(s: &[u8], p: usize, size: u16, end: usize) -> bool
-    requires { ⌜ size ≡ sizeAt (now s) p ⌝ }
+fn fits_at(s: &[u8], p: usize, size: u16, end: usize, table: &[u8; 256]) -> bool
+    requires { ⌜ (size ≡ sizeAt (now s) p) × HasRules (now table) ⌝ }
     ensures { λ r. ⌜ r ≡ fits (now (s .entry)) p end ⌝ }
 {
     let op = tree::op_at(s, p);
-    if ast::is_known(op) {
+    if ast::rule_in(table, op) != 0 {
         if tree::kind_at(s, p) <= 12 {
             let len = tree::length_at(s, p) as usize;
             let own = 12 + (size as usize);
@@ -26,14 +28,15 @@ fn fits_at(s: &[u8], p: usize, size: u16, end: usize) -> bool
 
 // From `p` on `n` nodes stand one behind the other up to `end`, each right inside to so many levels.
 // A payload's size is read once; count and children stand behind it. Most nodes have no children, and are told without a call.
-fn row_at(s: &[u8], levels: u16, n: u16, p: usize, end: usize) -> bool
+fn row_at(s: &[u8], levels: u16, n: u16, p: usize, end: usize, table: &[u8; 256]) -> bool
+    requires { ⌜ HasRules (now table) ⌝ }
     ensures { λ r. ⌜ r ≡ row (filled levels (now (s .entry))) (now (s .entry)) n p end ⌝ }
 {
     if n == 0 {
         return p == end;
     }
     let size = tree::size_at(s, p);
-    if fits_at(s, p, size, end) {
+    if fits_at(s, p, size, end, table) {
         if levels == 0 {
             return false;
         }
@@ -43,10 +46,10 @@ fn row_at(s: &[u8], levels: u16, n: u16, p: usize, end: usize) -> bool
         let inside = if count == 0 {
             first == next
         } else {
-            row_at(s, levels - 1, count, first, next)
+            row_at(s, levels - 1, count, first, next, table)
         };
         if inside {
-            return row_at(s, levels, n - 1, next, end);
+            return row_at(s, levels, n - 1, next, end, table);
         }
         return false;
     }
@@ -79,11 +82,12 @@ pub fn check_image(tree: &[u8]) -> u8
         if 1 < wire::get_u8(tree, 0, header::DIVISOR) {
             return 3;
         }
-        if row_at(tree, header::LEVELS, 1, header::ROOT, tree.len()) {
+        let table = RULES;
+        if row_at(tree, header::LEVELS, 1, header::ROOT, tree.len(), &table) {
             return 0;
         }
         // This pass tells 3 from 4.
-        if row_at(tree, header::ALL_LEVELS, 1, header::ROOT, tree.len()) {
+        if row_at(tree, header::ALL_LEVELS, 1, header::ROOT, tree.len(), &table) {
             return 4;
         }
         return 3;

@@ -1,20 +1,20 @@
-use Prim.Native.Nat.{ℕ, zero, suc, _≤_}
-use mathlib.Core.Path.{_≡_, refl}
+use Prim.Native.Nat.{ℕ, _%_}
+use mathlib.Core.Path.{_≡_, ap, _∙_}
 use native.Mathlib.Omega.{arith}
 use borrow.Author.Needs.{needs}
-use borrow.Author.Tests.{le-leb}
 use Rattle.ast.specs.Rules.{ruleOf}
 use Rattle.ast.proofs.RuleTable.{rules, rule-at}
 use Rattle.ast.proofs.rule.Statement.{statement}
 use Rattle.ast.proofs.rule.Tie as tie
 
-own : (op : ℕ) → op ≤ 51 → op ≡ ruleOf op
-unfolding ruleOf
-own zero h = refl
-own (suc n) h = rw (le-leb 1 (suc n) (omega arith), le-leb (suc n) 51 h)
+low-rule-requires : tie.Need-low-rule-requires
+low-rule-requires c κs = search needs
 
 returns : tie.Need-returns
-returns c = own (c .before .args .op) (c .if1 .taken)
+returns c =
+    let op : ℕ = c .before .before .args .op in
+    let own : op % 64 ≡ op = omega arith in
+    c .low-rule .ensures ∙ ap ruleOf own
 
 array-read-result : tie.Need-array-read-result
 array-read-result c = search needs
@@ -24,4 +24,4 @@ unfolding rules
 returns-2 c = rule-at (c .before .args .op) (c .before .fits .op .fits)
 
 pub rule-spec : {M : Type 1} → statement M
-rule-spec = tie.close (tie.spec returns array-read-result returns-2)
+rule-spec = tie.close (tie.spec low-rule-requires returns array-read-result returns-2)

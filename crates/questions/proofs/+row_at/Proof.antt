@@ -20,14 +20,14 @@ use Rattle.wire.proofs.get_u16.Reads as get-u16-reads
 use Rattle.questions.proofs.+row_at.{statement}
 use Rattle.questions.proofs.+row_at.Tie.{close}
 
-abbrev μ-row-at : Measures 1 row-at-kinds.ps ℕ
+abbrev μ-row-at : Measures 2 row-at-kinds.ps ℕ
 μ-row-at κs a = a .1 .0 * 65536 + a .1 .1 .0
 
-abbrev row-at-at : ℕ → In 1 row-at-kinds.ps
-row-at-at t = and 1 row-at-kinds.ps (is 1 row-at-kinds.ps μ-row-at t) row-at.Pre
+abbrev row-at-at : ℕ → In 2 row-at-kinds.ps
+row-at-at t = and 2 row-at-kinds.ps (is 2 row-at-kinds.ps μ-row-at t) row-at.Pre
 
-abbrev row-at-below : ℕ → In 1 row-at-kinds.ps
-row-at-below t = and 1 row-at-kinds.ps (falls 1 row-at-kinds.ps _<_ μ-row-at t) row-at.Pre
+abbrev row-at-below : ℕ → In 2 row-at-kinds.ps
+row-at-below t = and 2 row-at-kinds.ps (falls 2 row-at-kinds.ps _<_ μ-row-at t) row-at.Pre
 
 abbrev claims : ℕ → row-at-lts.Claims
 claims t = (size-at-reads.Asked, size-at-reads.Learnt, fits-at-reads.Asked, fits-at-reads.Learnt, next-at-reads.Asked, next-at-reads.Learnt, get-u16-reads.Asked, get-u16-reads.Learnt, place-reads.Asked, place-reads.Learnt, row-at-below t, row-at.Post)
@@ -41,7 +41,7 @@ row-at-size-at-requires : (t : ℕ) → row-at-lts.Need-size-at-requires (claims
 row-at-size-at-requires t c κs = search needs
 
 row-at-fits-at-requires : (t : ℕ) → row-at-lts.Need-fits-at-requires (claims t) (row-at-at t) row-at.Post
-row-at-fits-at-requires t c κs = search needs
+row-at-fits-at-requires t c κs = (c .size-at .ensures .0, c .before .before .before .pre .1)
 
 row-at-returns-2 : (t : ℕ) → row-at-lts.Need-returns-2 (claims t) (row-at-at t) row-at.Post
 row-at-returns-2 t c =
@@ -71,13 +71,13 @@ row-at-place-requires : (t : ℕ) → row-at-lts.Need-place-requires (claims t) 
 row-at-place-requires t c κs = search needs
 
 row-at-row-at-requires : (t : ℕ) → row-at-lts.Need-row-at-requires (claims t) (row-at-at t) row-at.Post
-row-at-row-at-requires t c κs = (omega (arith, c .before .before .before .before .before .before .before .before .before .before .pre .0, c .before .before .get-u16 .ok), tt)
+row-at-row-at-requires t c κs = (omega (arith, c .before .before .before .before .before .before .before .before .before .before .pre .0, c .before .before .get-u16 .ok), c .before .before .before .before .before .before .before .before .before .before .pre .1)
 
 row-at-sub-row-at-2 : (t : ℕ) → row-at-lts.Need-sub-row-at-2 (claims t) (row-at-at t) row-at.Post
 row-at-sub-row-at-2 t c = omega arith
 
 row-at-row-at-requires-2 : (t : ℕ) → row-at-lts.Need-row-at-requires-2 (claims t) (row-at-at t) row-at.Post
-row-at-row-at-requires-2 t c κs = (omega (arith, c .before .before .before .before .before .before .before .before .before .before .before .pre .0), tt)
+row-at-row-at-requires-2 t c κs = (omega (arith, c .before .before .before .before .before .before .before .before .before .before .before .pre .0), c .before .before .before .before .before .before .before .before .before .before .before .pre .1)
 
 -- told with a call or without, the node at p is right inside
 inside-is : (t : ℕ) (c : row-at-lts.Joined4 (claims t) (row-at-at t) row-at.Post)

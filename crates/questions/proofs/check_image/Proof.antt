@@ -1,5 +1,6 @@
 use Prim.Native.Nat.{ℕ}
 use Rattle.ast.specs.Header.{LEVELS, ALL-LEVELS}
+use Rattle.ast.proofs.RuleTable.{rules, rule-at}
 use Rattle.ast.specs.Questions.{rooted, whole, formed, shallow}
 use Rattle.questions.proofs.Cases.{settings, bad-arrays, bad-divisor, answer-0, answer-2, answer-3, answer-4}
 use Rattle.questions.proofs.MoreLevels.{more-levels}
@@ -36,32 +37,34 @@ returns-2 c =
     answer-3 s (is-whole (c .before .before .before .before)) (sym (bad-divisor s (omega arith) (omega arith)))
 
 row-at-requires : tie.Need-row-at-requires
-row-at-requires c κs = search needs
+unfolding rules
+row-at-requires c κs = rule-at
 
 returns-3 : tie.Need-returns-3
 unfolding rooted shallow
 returns-3 c =
-    let s : List ℕ = c .before .before .before .before .before .before .before .before .before .args .tree .now in
+    let s : List ℕ = c .before .before .before .before .before .before .before .before .before .before .args .tree .now in
     let h : shallow s ≡ true = sym (c .before .row-at .ensures) ∙ c .if4 .taken in
-    answer-0 s (is-whole (c .before .before .before .before .before .before)) (by-rows (c .before .before) ∙ more-levels s LEVELS ALL-LEVELS (omega arith) h) h
+    answer-0 s (is-whole (c .before .before .before .before .before .before .before)) (by-rows (c .before .before .before) ∙ more-levels s LEVELS ALL-LEVELS (omega arith) h) h
 
 row-at-requires-2 : tie.Need-row-at-requires-2
-row-at-requires-2 c κs = search needs
+unfolding rules
+row-at-requires-2 c κs = rule-at
 
 returns-4 : tie.Need-returns-4
 unfolding rooted shallow
 returns-4 c =
-    let s : List ℕ = c .before .before .before .before .before .before .before .before .before .before .before .args .tree .now in
+    let s : List ℕ = c .before .before .before .before .before .before .before .before .before .before .before .before .before .args .tree .now in
     let r : rooted ALL-LEVELS s ≡ true = sym (c .before .row-at2 .ensures) ∙ c .if5 .taken in
-    let h : shallow s ≡ false = sym (c .before .before .before .row-at .ensures) ∙ c .before .before .if4 .left in
-    answer-4 s (is-whole (c .before .before .before .before .before .before .before .before)) (by-rows (c .before .before .before .before) ∙ r) h
+    let h : shallow s ≡ false = sym (c .before .before .before .before .row-at .ensures) ∙ c .before .before .before .if4 .left in
+    answer-4 s (is-whole (c .before .before .before .before .before .before .before .before .before .before)) (by-rows (c .before .before .before .before .before .before) ∙ r) h
 
 returns-5 : tie.Need-returns-5
 unfolding rooted
 returns-5 c =
-    let s : List ℕ = c .before .before .before .before .before .before .before .before .before .before .before .args .tree .now in
+    let s : List ℕ = c .before .before .before .before .before .before .before .before .before .before .before .before .before .args .tree .now in
     let r : rooted ALL-LEVELS s ≡ false = sym (c .before .row-at2 .ensures) ∙ c .if5 .left in
-    answer-3 s (is-whole (c .before .before .before .before .before .before .before .before)) (by-rows (c .before .before .before .before) ∙ r)
+    answer-3 s (is-whole (c .before .before .before .before .before .before .before .before .before .before)) (by-rows (c .before .before .before .before .before .before) ∙ r)
 
 returns-6 : tie.Need-returns-6
 returns-6 c = answer-2 (c .before .before .before .args .tree .now) (sym (c .before .whole-at .ensures) ∙ c .if1 .left)
