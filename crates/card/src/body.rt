@@ -1,6 +1,8 @@
 // The nine sections, each a count and its entries, and the closing fields.
 ghost use mathlib.Core.Path.{_≡_};
 ghost use Prim.Native.Nat.{_+_, _*_, _^_, _≤_, _<_};
+ghost use Rattle.numeric.specs.Post.{identity};
+ghost use Rattle.numeric.specs.PostOp.{patterns};
 ghost use Rattle.program.specs.Image.{bit};
 ghost use Rattle.card.specs.Written.{Wrote};
 ghost use Rattle.card.specs.Image.{
@@ -30,12 +32,9 @@ use crate::fields::put_half;
 use crate::fields::put_halves;
 use crate::fields::put_word;
 use crate::fields::put_words;
+use numeric::PostBits;
+use numeric::PostOp;
 use workspace::layout;
-
-// Slot 0: scale 1.0, offset 0.0.
-const IDENTITY_SCALE: u32 = 0x3f80_0000;
-
-const IDENTITY_OFFSET: u32 = 0;
 
 // The main code, then the argument code with the main code's length added to its targets.
 fn put_code(ws: &[u32], n: u16, m: u16, out: &mut [u8], at: usize) -> usize
@@ -55,13 +54,25 @@ fn put_consts(ws: &[u32], n: u16, out: &mut [u8], at: usize) -> usize
     put_words(ws, layout::CONSTS, n as usize, 0, out, e)
 }
 
+// Slot 0: the identity by its bit patterns.
+fn identity_bits() -> PostBits
+    ensures { λ r. ⌜ patterns r ≡ identity ⌝ }
+{
+    let one = PostOp::IDENTITY;
+    PostBits {
+        scale: numeric::bits_of(one.scale),
+        offset: numeric::bits_of(one.offset),
+    }
+}
+
 fn put_posts(ws: &[u32], n: u16, out: &mut [u8], at: usize) -> usize
     requires { ⌜ at < 2 ^ 56 ⌝ }
     ensures { λ r. ⌜ Wrote (now (out .entry)) at (postsSection (now (ws .entry)) n) (now (out .exit)) r × (r ≤ at + 2 ^ 40) ⌝ }
 {
+    let plain = identity_bits();
     let e = put_word(out, at, n as u32 + 1);
-    let f = put_word(out, e, IDENTITY_SCALE);
-    let g = put_word(out, f, IDENTITY_OFFSET);
+    let f = put_word(out, e, plain.scale);
+    let g = put_word(out, f, plain.offset);
     put_words(ws, layout::POSTS, 2 * (n as usize), 0, out, g)
 }
 
