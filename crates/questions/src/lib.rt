@@ -87,7 +87,14 @@ pub fn check_image(tree: &[u8]) -> u8
             return 0;
         }
         // This pass tells 3 from 4.
-        if row_at(tree, header::ALL_LEVELS, 1, header::ROOT, tree.len(), &table) {
+        if row_at(
+            tree,
+            header::ALL_LEVELS,
+            1,
+            header::ROOT,
+            tree.len(),
+            &table,
+        ) {
             return 4;
         }
         return 3;
