@@ -1,5 +1,4 @@
 // The builder's state by value, beside the lent workspace: how much of each region is in use, a waiting Push, depth, flags and the first refusal.
-pub mod refusals;
 pub mod segments;
 
 use code::segment;

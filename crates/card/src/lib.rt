@@ -8,6 +8,7 @@ mod measure;
 ghost use mathlib.Core.Path.{_≡_};
 ghost use lib.ListN.{length};
 ghost use Rattle.card.specs.Image.{imageOf, laid, answerOf};
+use answers::refusals;
 use body::put_body;
 use fields::put_byte;
 use fields::put_word;
@@ -66,12 +67,12 @@ pub fn finish(tree: &[u8], ws: &[u32], c: Sections, out: &mut [u8]) -> Answer
     let n = write_image(tree, ws, c, out);
     if n > room {
         return Answer {
-            number: 9,
+            number: refusals::SMALL_OUTPUT,
             length: 0,
         };
     }
     Answer {
-        number: 0,
+        number: refusals::ACCEPTED,
         length: n,
     }
 }

@@ -1,4 +1,5 @@
 // The generator: a tree image to its program image, over a lent workspace.
+use answers::refusals;
 use builder::State;
 use card::Sections;
 use program::Flags;
@@ -25,7 +26,7 @@ pub fn build(tree: &[u8], workspace: &mut [u32], out: &mut [u8]) -> Answer
     ensures { λ r. ⌜ Built (now (tree .entry)) (now (workspace .entry)) (now (out .entry)) (now (workspace .exit)) (now (out .exit)) (shown r) ⌝ }
 {
     if workspace.len() < layout::WORDS {
-        return Answer::Refused(1);
+        return Answer::Refused(refusals::SMALL_WORKSPACE);
     }
     inside(tree, &mut workspace[..layout::WORDS], out)
 }
@@ -75,7 +76,7 @@ fn asked(tree: &[u8], ws: &mut [u32], out: &mut [u8]) -> Answer
     ensures { λ r. ⌜ Asked (now (tree .entry)) (now (out .entry)) (now (out .exit)) (shown r) ⌝ }
 {
     let r = questions::check_image(tree);
-    if r != 0 {
+    if r != refusals::ACCEPTED {
         return Answer::Refused(r);
     }
     generate(tree, ws, out)
@@ -87,7 +88,7 @@ fn generate(tree: &[u8], ws: &mut [u32], out: &mut [u8]) -> Answer
     ensures { λ r. ⌜ Asked (now (tree .entry)) (now (out .entry)) (now (out .exit)) (shown r) ⌝ }
 {
     let s = lowering::lower(tree, ws);
-    if s.refusal != 0 {
+    if s.refusal != refusals::ACCEPTED {
         return Answer::Refused(s.refusal);
     }
     let c = sections(s);
@@ -98,7 +99,7 @@ fn generate(tree: &[u8], ws: &mut [u32], out: &mut [u8]) -> Answer
 fn answered(a: card::Answer) -> Answer
     ensures { λ r. ⌜ shown r ≡ told a ⌝ }
 {
-    if a.number != 0 {
+    if a.number != refusals::ACCEPTED {
         return Answer::Refused(a.number);
     }
     Answer::Accepted(a.length)

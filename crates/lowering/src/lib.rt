@@ -10,10 +10,10 @@ mod regions;
 mod steps;
 mod values;
 
+use answers::refusals;
 use ast::header;
 use ast::operators;
 use builder::State;
-use builder::refusals;
 use builder::segments;
 use code::segment;
 use control::EachIndex;

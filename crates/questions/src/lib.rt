@@ -1,4 +1,5 @@
 // Questions 2 to 4 on a tree image. The table of rules is laid out once for an image, and lent.
+use answers::refusals;
 use ast::header;
 use ast::rules::RULES;
 ghost use mathlib.Core.Path.{_≡_};
@@ -77,14 +78,14 @@ pub fn check_image(tree: &[u8]) -> u8
 {
     if whole_at(tree) {
         if 1 < wire::get_u8(tree, 0, header::ARRAYS) {
-            return 3;
+            return refusals::DAMAGED;
         }
         if 1 < wire::get_u8(tree, 0, header::DIVISOR) {
-            return 3;
+            return refusals::DAMAGED;
         }
         let table = RULES;
         if row_at(tree, header::LEVELS, 1, header::ROOT, tree.len(), &table) {
-            return 0;
+            return refusals::ACCEPTED;
         }
         // This pass tells 3 from 4.
         if row_at(
@@ -95,9 +96,9 @@ pub fn check_image(tree: &[u8]) -> u8
             tree.len(),
             &table,
         ) {
-            return 4;
+            return refusals::TOO_DEEP;
         }
-        return 3;
+        return refusals::DAMAGED;
     }
-    2
+    refusals::NO_TREE_IMAGE
 }

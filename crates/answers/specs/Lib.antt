@@ -1,0 +1,2 @@
+-- The answers of the generator: the refusals. Definitions only.
+pub mod Refusals

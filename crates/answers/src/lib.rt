@@ -1,0 +1,2 @@
+// What the generator answers: the refusals.
+pub mod refusals;
