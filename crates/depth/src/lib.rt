@@ -145,38 +145,38 @@ fn handler_left(d: Depth) -> Depth
 // The counters are lent, and changed where they are.
 impl Depth {
     // An operand is pushed.
-    pub fn push_operand(&mut self)
+    fn push_operand(&mut self)
         ensures { λ _. ⌜ now (self .exit) ≡ pushed (now (self .entry)) ⌝ }
     {
         *self = pushed(*self);
     }
 
     // `k` operands fewer on the stack.
-    pub fn pop_operands(&mut self, k: u16)
+    fn pop_operands(&mut self, k: u16)
         ensures { λ _. ⌜ now (self .exit) ≡ popped (now (self .entry)) k ⌝ }
     {
         *self = popped(*self, k);
     }
 
-    pub fn enter_loop(&mut self)
+    fn enter_loop(&mut self)
         ensures { λ _. ⌜ now (self .exit) ≡ loopEntered (now (self .entry)) ⌝ }
     {
         *self = loop_entered(*self);
     }
 
-    pub fn leave_loop(&mut self)
+    fn leave_loop(&mut self)
         ensures { λ _. ⌜ now (self .exit) ≡ loopLeft (now (self .entry)) ⌝ }
     {
         *self = loop_left(*self);
     }
 
-    pub fn enter_handler(&mut self)
+    fn enter_handler(&mut self)
         ensures { λ _. ⌜ now (self .exit) ≡ handlerEntered (now (self .entry)) ⌝ }
     {
         *self = handler_entered(*self);
     }
 
-    pub fn leave_handler(&mut self)
+    fn leave_handler(&mut self)
         ensures { λ _. ⌜ now (self .exit) ≡ handlerLeft (now (self .entry)) ⌝ }
     {
         *self = handler_left(*self);

@@ -6,7 +6,7 @@ ghost use Rattle.numeric.specs.Post.{isIdentity, fold};
 ghost use Rattle.numeric.specs.PostOp.{post, patterns, postOf, identityOp, foldOp};
 
 // The float of a bit pattern. Every NaN's pattern gives a NaN, of no particular payload.
-pub fn float_of(bits: u32) -> f32
+fn float_of(bits: u32) -> f32
     ensures { λ r. ⌜ r ≡ ofBits binary32 bits ⌝ }
 {
     if (bits & 0x7fff_ffff) > 0x7f80_0000 {
@@ -17,7 +17,7 @@ pub fn float_of(bits: u32) -> f32
 }
 
 // The bit pattern of a float; a NaN's is 7FC00000.
-pub fn bits_of(x: f32) -> u32
+fn bits_of(x: f32) -> u32
     ensures { λ r. ⌜ r ≡ toBits binary32 x ⌝ }
 {
     if x != x { 0x7fc0_0000 } else { f32::to_bits(x) }
