@@ -2,7 +2,10 @@
  *
  * molang_build turns a tree image into a program image. It keeps nothing between calls, takes no memory of its own but the stack, calls nothing but memset,
  * and may run in several threads at once, each with its own workspace and output. Give it 512 KiB of stack: 252,544 bytes are the most that was seen, 22,616 with
- * typical trees. */
+ * typical trees.
+ *
+ * The thread that calls it must round floats to nearest and keep subnormals, as a program does from its start (MXCSR: rounding control 0, FTZ and DAZ
+ * off): constants are folded while compiling, and with another mode a fold gives other bytes, though never a fault (bench/floats). */
 #ifndef MOLANG_H
 #define MOLANG_H
 
@@ -25,15 +28,15 @@ extern "C" {
 /* The nine questions in the order in which they are asked; the first that is answered by no is the refusal. */
 enum molang_refusal {
     MOLANG_ACCEPTED = 0,
-    MOLANG_SMALL_WORKSPACE = 1, /* the workspace has fewer than 16,384 words */
-    MOLANG_NO_TREE_IMAGE = 2,   /* not 5 to 6,144 bytes, or the first byte is not 1, or the length in it is not true */
-    MOLANG_DAMAGED = 3,         /* a setting, operator code, payload kind or node length is wrong, or something is left over */
-    MOLANG_TOO_DEEP = 4,        /* a node below level 64 */
-    MOLANG_USES_ARRAYS = 5,     /* the expression uses arrays that nobody resolved */
-    MOLANG_USES_RESOURCES = 6,  /* the expression uses resources */
-    MOLANG_FAILED = 7,          /* an operator has the wrong operands or payload, or has no bytecode */
-    MOLANG_OTHER_MOB = 8,       /* an assignment writes to another mob */
-    MOLANG_SMALL_OUTPUT = 9     /* the program image is longer than the output */
+    MOLANG_SMALL_WORKSPACE = 1,    /* the workspace has fewer than 16,384 words */
+    MOLANG_NO_TREE_IMAGE = 2,      /* not a tree image, which has 5 to 6,144 bytes, begins with the byte 1 and gives its true length */
+    MOLANG_DAMAGED = 3,            /* a setting, an operator code, a payload kind or a node's length is wrong, or something is left over */
+    MOLANG_TOO_DEEP = 4,           /* a node stands deeper than level 64 */
+    MOLANG_USES_ARRAYS = 5,        /* the expression uses arrays */
+    MOLANG_USES_RESOURCES = 6,     /* the expression uses resources */
+    MOLANG_FAILED = 7,             /* an operator has the wrong operands or payload, or has no bytecode */
+    MOLANG_WRITE_TO_OTHER_MOB = 8, /* an assignment writes to another mob */
+    MOLANG_SMALL_OUTPUT = 9        /* the program image is longer than the output */
 };
 
 /* Compiles the `tree_len` bytes at `tree` into the `out_len` bytes at `out`. The answer is the refusal's number times 2^32, plus the image's length (0 when
@@ -76,7 +79,7 @@ static inline const char *molang_reason(enum molang_refusal refusal)
     case MOLANG_USES_ARRAYS: return "the expression uses arrays";
     case MOLANG_USES_RESOURCES: return "the expression uses resources";
     case MOLANG_FAILED: return "an operator has the wrong operands or payload, or has no bytecode";
-    case MOLANG_OTHER_MOB: return "an assignment writes to another mob";
+    case MOLANG_WRITE_TO_OTHER_MOB: return "an assignment writes to another mob";
     case MOLANG_SMALL_OUTPUT: return "the program image is longer than the output";
     }
     return "no answer of molang_build";
