@@ -4,6 +4,7 @@ use mathlib.Core.List.{List}
 use mathlib.Core.Bool.{Bool, true, false, _&&_, cond}
 use lib.Dec.{leb, eqb}
 use lib.ListN.{length}
+use Rattle.answers.specs.Refusals as Refusal
 use Rattle.ast.specs.Header.{VERSION, versionOf, restOf, arraysOf, divisorOf, ROOT, SHORTEST, LONGEST, LEVELS, ALL-LEVELS}
 use Rattle.ast.specs.Rules.{known}
 use Rattle.ast.specs.Node.{lenAt, opAt, kindAt, sizeAt, countAt, firstAt, nextAt}
@@ -48,4 +49,4 @@ shallow s = rooted LEVELS s
 
 -- 01, Nine questions, "in this order": 2, 3 or 4 for the first that is answered by no, else 0
 unfoldable pub questions : List ℕ → ℕ
-questions s = cond (whole s) (cond (formed s) (cond (shallow s) 0 4) 3) 2
+questions s = cond (whole s) (cond (formed s) (cond (shallow s) Refusal.ACCEPTED Refusal.TOO-DEEP) Refusal.DAMAGED) Refusal.NO-TREE-IMAGE

@@ -4,6 +4,7 @@ use mathlib.Core.Bool.{cond}
 use Prim.Native.Nat.{ℕ, _+_, _*_, _/_, _%_}
 use lib.ListN.{length, getD, drop, replicate}
 use lib.Dec.{leb}
+use Rattle.answers.specs.Refusals as Refusal
 use Rattle.wire.specs.Bytes.{be8, be}
 use Rattle.numeric.specs.Post.{identity}
 use Rattle.program.specs.Image.{bit}
@@ -147,4 +148,7 @@ laid img s = cond (leb (length img) (length s)) (img ++ drop (length img) s) s
 
 -- 01, Nine questions, 9: "Is the output at least as long as the program image? No: 9."
 unfoldable pub answerOf : List ℕ → List ℕ → Answer
-answerOf img s = cond (leb (length img) (length s)) (record { number = 0; length = length img }) (record { number = 9; length = 0 })
+answerOf img s =
+    cond (leb (length img) (length s))
+    (record { number = Refusal.ACCEPTED; length = length img })
+    (record { number = Refusal.SMALL-OUTPUT; length = 0 })

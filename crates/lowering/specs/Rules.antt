@@ -3,6 +3,7 @@ use mathlib.Core.Bool.{Bool, true, false, cond, _&&_}
 use mathlib.Core.List.{List, [], _∷_}
 use Prim.Native.Nat.{ℕ, zero, suc, _-_}
 use lib.Dec.{eqb, ltb}
+use Rattle.answers.specs.Refusals as Refusal
 use Rattle.numeric.specs.Post.{fold}
 use Rattle.ast.specs.Header.{arraysOf, divisorOf, ROOT, LEVELS}
 use Rattle.ast.specs.Operators as Operator
@@ -41,7 +42,7 @@ among (e ∷ l) r d = cond (eqb r (e .0)) (e .1) (among l r d)
 
 -- a ForEach variable that is refused, and one that is interned, as a name or as a temp
 unfoldable pub noVariable : Held → EachVariable × List ℕ
-noVariable h = let g = failed 7 h in (record { state = g .0; index = Refused }, g .1)
+noVariable h = let g = failed Refusal.FAILED h in (record { state = g .0; index = Refused }, g .1)
 
 unfoldable pub variableOf : (ℕ → EachIndex) → Found → EachVariable × List ℕ
 variableOf kind e = (record { state = e .0 .state; index = kind (e .0 .index) }, e .1)
@@ -79,7 +80,7 @@ module _ (t : List ℕ) where
   -- ---- values
 
   unfoldable pub loadContext : ℕ → ℕ → Step
-  loadContext p q = ifName Kind.CONTEXT p (failed 7) λ n. do
+  loadContext p q = ifName Kind.CONTEXT p (failed Refusal.FAILED) λ n. do
     still (flagged Flag.READS-CONTEXT)
     k ← withName n
     instr O.LOAD-CTX 0 k q
@@ -117,7 +118,7 @@ module _ (t : List ℕ) where
 
   -- behind a member's base
   unfoldable pub memberPut : ℕ → NameRef → Step
-  memberPut p last = ifName Kind.MEMBER p (failed 7) λ n. do
+  memberPut p last = ifName Kind.MEMBER p (failed Refusal.FAILED) λ n. do
     k ← withMember n last
     putPost t p O.MEMBER 0 k
 
@@ -168,7 +169,7 @@ module _ (t : List ℕ) where
         still notFloatOnly
         still (flagged Flag.USES-MEMBERS)
         rootVar (e .root) n p (e .count) q)
-      (failed 7)
+      (failed Refusal.FAILED)
 
   unfoldable pub storeTemp : ℕ → ℕ → ℕ → Step
   storeTemp n p q = ifName Kind.TEMP p (storeMember n p q) λ m. do
@@ -188,10 +189,10 @@ module _ (t : List ℕ) where
 
   unfoldable pub targetRefusal : ℕ → ℕ
   targetRefusal p =
-      cond (eqb (rule p) Operator.MEMBER-ACCESSOR) 0
-      (cond (eqb (rule p) Operator.ENTITY-VARIABLE) 0
-      (cond (eqb (rule p) Operator.POINTER) 8
-      (asName Kind.TEMP (payload p) 7 (λ n. 0))))
+      cond (eqb (rule p) Operator.MEMBER-ACCESSOR) Refusal.ACCEPTED
+      (cond (eqb (rule p) Operator.ENTITY-VARIABLE) Refusal.ACCEPTED
+      (cond (eqb (rule p) Operator.POINTER) Refusal.WRITE-TO-OTHER-MOB
+      (asName Kind.TEMP (payload p) Refusal.FAILED (λ n. Refusal.ACCEPTED))))
 
   -- ---- logic
 
@@ -241,15 +242,15 @@ module _ (t : List ℕ) where
       ∷ (Operator.GEOMETRY, resource p h)
       ∷ (Operator.STRING-LITERAL, stringLiteral p h)
       ∷ (Operator.FLOAT, constant (floatOf (payload p)) h)
-      ∷ (Operator.TEXTURE-VARIABLE, failed 6 h)
-      ∷ (Operator.MATERIAL-VARIABLE, failed 6 h)
-      ∷ (Operator.GEOMETRY-VARIABLE, failed 6 h)
-      ∷ (Operator.EXPRESSION-ARRAY, failed 5 h)
-      ∷ (Operator.ARRAY-VARIABLE, failed 5 h)
+      ∷ (Operator.TEXTURE-VARIABLE, failed Refusal.USES-RESOURCES h)
+      ∷ (Operator.MATERIAL-VARIABLE, failed Refusal.USES-RESOURCES h)
+      ∷ (Operator.GEOMETRY-VARIABLE, failed Refusal.USES-RESOURCES h)
+      ∷ (Operator.EXPRESSION-ARRAY, failed Refusal.USES-ARRAYS h)
+      ∷ (Operator.ARRAY-VARIABLE, failed Refusal.USES-ARRAYS h)
       ∷ []
 
   unfoldable pub leaf : ℕ → Bool → ℕ → Step
-  leaf p l r h = among (leaves p l h) r (failed 7 h)
+  leaf p l r h = among (leaves p l h) r (failed Refusal.FAILED h)
 
 -- ---- rules with operands: E lowers the node at a place with one level fewer, C does as the base of a member path, R a Return of a statement list
 
@@ -258,15 +259,15 @@ module _ (t : List ℕ) (E : ℕ → Bool → Step) (C : ℕ → NameRef → Boo
   arrayElement p l =
       either (eqb (arraysOf t) 1)
       (either (eqb (countAt t p) 1)
-      (ifName t Kind.ARRAY-VARIABLE p (failed 7) λ n. do
+      (ifName t Kind.ARRAY-VARIABLE p (failed Refusal.FAILED) λ n. do
         still notFloatOnly
         E (firstAt t p) l
         arrayPut t p n)
-      (failed 7))
-      (failed 5)
+      (failed Refusal.FAILED))
+      (failed Refusal.USES-ARRAYS)
 
   unfoldable pub chained : ℕ → NameRef → Bool → Step
-  chained p last l = either (eqb (countAt t p) 0) (failed 7) do
+  chained p last l = either (eqb (countAt t p) 0) (failed Refusal.FAILED) do
     C (firstAt t p) last l
     memberPut t p last
 
@@ -274,7 +275,7 @@ module _ (t : List ℕ) (E : ℕ → Bool → Step) (C : ℕ → NameRef → Boo
   memberRead p l = do
     still notFloatOnly
     still (flagged Flag.USES-MEMBERS)
-    ifName t Kind.MEMBER p (failed 7) λ n. chained p n l
+    ifName t Kind.MEMBER p (failed Refusal.FAILED) λ n. chained p n l
 
   -- m arguments from q on; their starts go to slot and on
   unfoldable pub arguments : ℕ → Bool → ℕ → ℕ → ℕ → Step
@@ -294,7 +295,7 @@ module _ (t : List ℕ) (E : ℕ → Bool → Step) (C : ℕ → NameRef → Boo
         putPost t p O.CALL 0 k) g
 
   unfoldable pub query : ℕ → Step
-  query p = ifQuery t p (failed 7) λ i m. called p i m
+  query p = ifQuery t p (failed Refusal.FAILED) λ i m. called p i m
 
   unfoldable pub binary : ℕ → Bool → Step
   binary a l = do
@@ -303,7 +304,7 @@ module _ (t : List ℕ) (E : ℕ → Bool → Step) (C : ℕ → NameRef → Boo
     E (nextAt t a) l
 
   unfoldable pub compare : ℕ → ℕ → Bool → Step
-  compare o p l = either (eqb (countAt t p) 0) (failed 7) do
+  compare o p l = either (eqb (countAt t p) 0) (failed Refusal.FAILED) do
     q ← withPost t p
     either (eqb (countAt t p) 1)
         (do
@@ -315,7 +316,7 @@ module _ (t : List ℕ) (E : ℕ → Bool → Step) (C : ℕ → NameRef → Boo
           still (popped 1)
 
   unfoldable pub equal : ℕ → ℕ → Bool → Step
-  equal o p l = either (eqb (countAt t p) 0) (failed 7) do
+  equal o p l = either (eqb (countAt t p) 0) (failed Refusal.FAILED) do
     q ← withPost t p
     either (eqb (countAt t p) 1)
         (do
@@ -338,12 +339,12 @@ module _ (t : List ℕ) (E : ℕ → Bool → Step) (C : ℕ → NameRef → Boo
     land e) h
 
   unfoldable pub logical : ℕ → ℕ → ℕ → Bool → Step
-  logical step last p l = either (eqb (countAt t p) 0) (failed 7) do
+  logical step last p l = either (eqb (countAt t p) 0) (failed Refusal.FAILED) do
     q ← withPost t p
     junction step last q (countAt t p - 1) (firstAt t p) l
 
   unfoldable pub coalesce : ℕ → Bool → Step
-  coalesce p l = either (ltb (countAt t p) 2) (failed 7) do
+  coalesce p l = either (ltb (countAt t p) 2) (failed Refusal.FAILED) do
     missing ← withGuard O.HANDLER-PUSH 0 0
     still handlerEntered
     E (firstAt t p) l
@@ -359,7 +360,7 @@ module _ (t : List ℕ) (E : ℕ → Bool → Step) (C : ℕ → NameRef → Boo
   otherwise p b l = either (ltb (countAt t p) 3) (constant 0) (E (nextAt t b) l)
 
   unfoldable pub conditional : ℕ → Bool → Step
-  conditional p l = either (ltb (countAt t p) 2) (failed 7) do
+  conditional p l = either (ltb (countAt t p) 2) (failed Refusal.FAILED) do
     E (firstAt t p) l
     falsy ← withGuard O.JUMP-IF-FALSY 0 0
     E (nextAt t (firstAt t p)) l
@@ -389,7 +390,7 @@ module _ (t : List ℕ) (E : ℕ → Bool → Step) (C : ℕ → NameRef → Boo
   unfoldable pub countedLoop : ℕ → Bool → Step
   countedLoop p l = do
     still (flagged Flag.HAS-LOOPS)
-    either (ltb (countAt t p) 2) (failed 7) do
+    either (ltb (countAt t p) 2) (failed Refusal.FAILED) do
       E (firstAt t p) l
       begin ← withGuard O.LOOP-BEGIN 0 0
       still operandEntered
@@ -413,7 +414,8 @@ module _ (t : List ℕ) (E : ℕ → Bool → Step) (C : ℕ → NameRef → Boo
   forEach p l h =
       let g = still (λ s. notFloatOnly (flagged Flag.HAS-LOOPS s)) h in
       let v = variable t (firstAt t p) g in
-      cond (ltb (countAt t p) 3) (failed 7 g) (cond (isRefused (v .0 .index)) (v .0 .state, v .1) (each p (eachNext (v .0 .index)) l (v .0 .state, v .1)))
+      cond (ltb (countAt t p) 3) (failed Refusal.FAILED g)
+      (cond (isRefused (v .0 .index)) (v .0 .state, v .1) (each p (eachNext (v .0 .index)) l (v .0 .state, v .1)))
 
   -- the second child, or the node's constant
   unfoldable pub value : ℕ → ℕ → Bool → Step
@@ -423,7 +425,7 @@ module _ (t : List ℕ) (E : ℕ → Bool → Step) (C : ℕ → NameRef → Boo
   unfoldable pub assignment : ℕ → ℕ → Bool → Step
   assignment n p l =
       let a = firstAt t p in
-      either (eqb (countAt t p) 0) (failed 7)
+      either (eqb (countAt t p) 0) (failed Refusal.FAILED)
       (either (eqb (targetRefusal t a) 0)
       (do
         still (flagged Flag.HAS-ASSIGNMENT)
@@ -435,7 +437,7 @@ module _ (t : List ℕ) (E : ℕ → Bool → Step) (C : ℕ → NameRef → Boo
   pointer p l = do
     still notFloatOnly
     still (flagged Flag.USES-ARROW)
-    either (ltb (countAt t p) 2) (failed 7) do
+    either (ltb (countAt t p) 2) (failed Refusal.FAILED) do
       q ← withPost t p
       E (firstAt t p) l
       end ← withGuard O.POINTER-ENTER 0 q
@@ -444,10 +446,10 @@ module _ (t : List ℕ) (E : ℕ → Bool → Step) (C : ℕ → NameRef → Boo
       land end
 
   unfoldable pub bracket : ℕ → Bool → Step
-  bracket p l = either (eqb (countAt t p) 0) (failed 7) (E (firstAt t p) l)
+  bracket p l = either (eqb (countAt t p) 0) (failed Refusal.FAILED) (E (firstAt t p) l)
 
   unfoldable pub unary : ℕ → ℕ → Bool → Step
-  unary op p l = either (eqb (countAt t p) 0) (failed 7) do
+  unary op p l = either (eqb (countAt t p) 0) (failed Refusal.FAILED) do
     E (firstAt t p) l
     putPost t p op 0 0
 
@@ -464,7 +466,7 @@ module _ (t : List ℕ) (E : ℕ → Bool → Step) (C : ℕ → NameRef → Boo
   unfoldable pub add : ℕ → Bool → Step
   add p l =
       let a = firstAt t p in
-      either (eqb (countAt t p) 0) (failed 7)
+      either (eqb (countAt t p) 0) (failed Refusal.FAILED)
       (either (eqb (countAt t p) 1)
       (do
         E a l
@@ -476,13 +478,13 @@ module _ (t : List ℕ) (E : ℕ → Bool → Step) (C : ℕ → NameRef → Boo
         still (popped 1))
 
   unfoldable pub mul : ℕ → Bool → Step
-  mul p l = either (ltb (countAt t p) 2) (failed 7) do
+  mul p l = either (ltb (countAt t p) 2) (failed Refusal.FAILED) do
     binary (firstAt t p) l
     putPost t p O.MUL 0 0
     still (popped 1)
 
   unfoldable pub div : ℕ → Bool → Step
-  div p l = either (ltb (countAt t p) 2) (failed 7) do
+  div p l = either (ltb (countAt t p) 2) (failed Refusal.FAILED) do
     E (nextAt t (firstAt t p)) l
     end ← withGuard O.DIV-GUARD (bit (eqb (divisorOf t) 1)) 0
     still operandEntered
@@ -506,7 +508,7 @@ module _ (t : List ℕ) (E : ℕ → Bool → Step) (C : ℕ → NameRef → Boo
       let count = countAt t p in
       (do
         still (flagged bits)
-        ifMath t p (failed 7) λ f. either (eqb count 0) (failed 7) (either (ltb 255 count) (failed 7) do
+        ifMath t p (failed Refusal.FAILED) λ f. either (eqb count 0) (failed Refusal.FAILED) (either (ltb 255 count) (failed Refusal.FAILED) do
           hosted p f count (count - 1) (firstAt t p) l
           still (popped (count - 1))))
 
@@ -550,18 +552,18 @@ module _ (t : List ℕ) (E : ℕ → Bool → Step) (C : ℕ → NameRef → Boo
 module _ (t : List ℕ) where
   unfoldable mutual
     pub expr : ℕ → ℕ → Bool → Step
-    expr zero p l h = failed 7 h
+    expr zero p l h = failed Refusal.FAILED h
     expr (suc n) p l h = branch t (λ q l g. expr n q l g) (λ q x l g. chain n q x l g) (λ q l g. returned n q l g) n p l (rule t p) h
 
     pub chain : ℕ → ℕ → NameRef → Bool → Step
-    chain zero p last l h = failed 7 h
+    chain zero p last l h = failed Refusal.FAILED h
     chain (suc n) p last l h =
         cond (isLink t p)
         (chained t (λ q l g. expr n q l g) (λ q x l g. chain n q x l g) (λ q l g. returned n q l g) p last l h)
         (branch t (λ q l g. expr n q l g) (λ q x l g. chain n q x l g) (λ q l g. returned n q l g) n p l (rule t p) h)
 
     pub returned : ℕ → ℕ → Bool → Step
-    returned zero p l h = failed 7 h
+    returned zero p l h = failed Refusal.FAILED h
     returned (suc n) p l h = ret t (λ q l g. expr n q l g) (λ q x l g. chain n q x l g) (λ q l g. returned n q l g) p l h
 
 -- a rule over the lowerings of children of so many levels

@@ -4,6 +4,7 @@ use mathlib.Core.List.{List, _++_}
 use Prim.Native.Nat.{ℕ, zero, suc}
 use lib.Dec.{leb}
 use lib.ListN.{length, drop, replicate}
+use Rattle.answers.specs.Refusals as Refusal
 use Rattle.workspace.specs.Layout.{WORDS}
 use Rattle.semantics.specs.Link.{refusalOf, programImage}
 
@@ -14,12 +15,12 @@ pub record Answer : Type 0 where
 
 -- 01, Nine questions, 9: "Is the output at least as long as the program image? No: 9."
 unfoldable pub answerFrom : ℕ → ℕ → ℕ → Answer
-answerFrom zero n room = cond (leb n room) (record { number = 0; length = n }) (record { number = 9; length = 0 })
+answerFrom zero n room = cond (leb n room) (record { number = Refusal.ACCEPTED; length = n }) (record { number = Refusal.SMALL-OUTPUT; length = 0 })
 answerFrom (suc r) n room = record { number = suc r; length = 0 }
 
 -- 01, Nine questions, 1: "Has the workspace 16,384 words or more? No: 1."; by the tree image, the workspace's length and the output's
 unfoldable pub answer : List ℕ → ℕ → ℕ → Answer
-answer s words room = cond (leb WORDS words) (answerFrom (refusalOf s) (length (programImage s)) room) (record { number = 1; length = 0 })
+answer s words room = cond (leb WORDS words) (answerFrom (refusalOf s) (length (programImage s)) room) (record { number = Refusal.SMALL-WORKSPACE; length = 0 })
 
 -- 01, Nine questions: "output beyond it is unchanged"; a refusal changes no byte
 unfoldable pub written : ℕ → List ℕ → List ℕ → List ℕ

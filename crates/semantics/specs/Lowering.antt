@@ -5,7 +5,9 @@ use mathlib.Core.Option.{Option, some, none}
 use Prim.Native.Nat.{ℕ, zero, suc, _+_}
 use lib.Dec.{leb}
 use lib.ListN.{length}
+use Rattle.answers.specs.Refusals as Refusal
 use Rattle.numeric.specs.Post.{Post, fold}
+use Rattle.ast.specs.NameKinds as Kind
 use Rattle.ast.specs.Header.{Settings}
 use Rattle.ast.specs.Rules as R
 use Rattle.ast.specs.Rules.{Rule, ruleAt}
@@ -47,21 +49,21 @@ loaded v p = do
   byKind v (record {
     entity = λ n. flagged (sets READS-ACTOR-VARS) (do k ← withName n; put (I.reading (I.loadVar k q)));
     temp = λ n. (do t ← withTemp n; put (I.reading (I.loadTemp t q)));
-    other = asName 3 v (failing 7) (λ n. flagged (sets READS-CONTEXT) (do k ← withName n; put (I.reading (I.loadCtx k q))));
+    other = asName Kind.CONTEXT v (failing Refusal.FAILED) (λ n. flagged (sets READS-CONTEXT) (do k ← withName n; put (I.reading (I.loadCtx k q))));
   })
 
 -- a member read: its base, then itself; "Member: member, post"
 unfoldable pub chained : Post → Payload → List Lowerings → Name → Bool → Lowering
-chained p v xs last l = one xs (failing 7) λ a. do
+chained p v xs last l = one xs (failing Refusal.FAILED) λ a. do
   a .base last l
-  asName 6 v (failing 7) λ n. do
+  asName Kind.MEMBER v (failing Refusal.FAILED) λ n. do
     m ← withMember (record { own = n; last = last })
     q ← withPost p
     put (I.reading (I.member m q))
 
 -- the last member of the path is this one; not float only, USES_MEMBERS
 unfoldable pub memberRead : Post → Payload → List Lowerings → Bool → Lowering
-memberRead p v xs l = flagged (λ f. sets USES-MEMBERS (notFloatOnly f)) (asName 6 v (failing 7) (λ n. chained p v xs n l))
+memberRead p v xs l = flagged (λ f. sets USES-MEMBERS (notFloatOnly f)) (asName Kind.MEMBER v (failing Refusal.FAILED) (λ n. chained p v xs n l))
 
 unfoldable pub withRoot : Payload → (StoreRoot → Lowering) → Lowering
 withRoot v f = byKind v (record {
@@ -90,16 +92,16 @@ stores r v m p = do
   byKind v (record {
     entity = λ n. (do k ← withName n; put (I.plain (I.storeVar k q)));
     temp = λ n. (do t ← withTemp n; put (I.plain (I.storeTemp t q)));
-    other = cond (isMember r && m .fine) (memberStore m q) (failing 7);
+    other = cond (isMember r && m .fine) (memberStore m q) (failing Refusal.FAILED);
   })
 
 -- the target's check before anything is lowered; 01, Nine questions, 8: "No assignment to a Pointer (WriteToOtherMob)? No: 8, in place of 7."
 unfoldable pub targetRefusal : Rule → Payload → ℕ
-targetRefusal R.return v = asName 5 v 7 (λ n. 0)
-targetRefusal R.member v = 0
-targetRefusal R.entity v = 0
-targetRefusal R.pointer v = 8
-targetRefusal (R.plain r) v = asName 5 v 7 (λ n. 0)
+targetRefusal R.return v = asName Kind.TEMP v Refusal.FAILED (λ n. Refusal.ACCEPTED)
+targetRefusal R.member v = Refusal.ACCEPTED
+targetRefusal R.entity v = Refusal.ACCEPTED
+targetRefusal R.pointer v = Refusal.WRITE-TO-OTHER-MOB
+targetRefusal (R.plain r) v = asName Kind.TEMP v Refusal.FAILED (λ n. Refusal.ACCEPTED)
 
 unfoldable pub unless : ℕ → Lowering → Lowering
 unless zero f = f
@@ -107,7 +109,7 @@ unless (suc r) f = failing (suc r)
 
 -- the value f goes to the first child; HAS_ASSIGNMENT
 unfoldable pub target : Forest → Lowering → Post → Lowering
-target nil f p = failing 7
+target nil f p = failing Refusal.FAILED
 target (cons (node op q v us) ts) f p = unless (targetRefusal (ruleAt op) v) (flagged (sets HAS-ASSIGNMENT) do
   f
   stores (ruleAt op) v (path (node op q v us)) p)
@@ -189,7 +191,7 @@ query v m p xs c b n s = withPost p (λ q. put (I.call (length (s .pools .calls)
 
 -- "pointer and load intern the post first"; not float only, USES_ARROW
 unfoldable pub pointed : Post → List Lowerings → Bool → Lowering
-pointed p xs l = flagged (λ f. sets USES-ARROW (notFloatOnly f)) (two xs (failing 7) λ a b. do
+pointed p xs l = flagged (λ f. sets USES-ARROW (notFloatOnly f)) (two xs (failing Refusal.FAILED) λ a b. do
   q ← withPost p
   a .expr l
   guarded (I.pointerEnter q) same do
@@ -216,18 +218,18 @@ unfoldable pub eachOf : Payload → (EachNext → Lowering) → Lowering
 eachOf v f = byKind v (record {
   entity = λ n. (do k ← withName n; f (I.eachNextVar k));
   temp = λ n. (do t ← withTemp n; f (I.eachNextTemp t));
-  other = failing 7;
+  other = failing Refusal.FAILED;
 })
 
 unfoldable pub variable : Forest → (EachNext → Lowering) → Lowering
-variable nil f = failing 7
+variable nil f = failing Refusal.FAILED
 variable (cons (node op q v us) ts) f = eachOf v f
 
 -- ---- every rule
 
 -- "Array: index, name, post"; exactly one child
 unfoldable pub arrayElement-of : Post → Payload → List Lowerings → Bool → Lowering
-arrayElement-of p v xs l = just xs (failing 7) λ a. asName 7 v (failing 7) λ n. flagged notFloatOnly do
+arrayElement-of p v xs l = just xs (failing Refusal.FAILED) λ a. asName Kind.ARRAY-VARIABLE v (failing Refusal.FAILED) λ n. flagged notFloatOnly do
   a .expr l
   k ← withName n
   q ← withPost p
@@ -235,9 +237,9 @@ arrayElement-of p v xs l = just xs (failing 7) λ a. asName 7 v (failing 7) λ n
 
 module _ (S : Settings) where
   unfoldable pub lowerPlain : R.Plain → Post → Payload → Forest → List Lowerings → Bool → Lowering
-  lowerPlain R.array p v ts xs l = cond (S .fromHost) (arrayElement-of p v xs l) (failing 5)
-  lowerPlain R.usesArrays p v ts xs l = failing 5
-  lowerPlain R.usesResources p v ts xs l = failing 6
+  lowerPlain R.array p v ts xs l = cond (S .fromHost) (arrayElement-of p v xs l) (failing Refusal.USES-ARRAYS)
+  lowerPlain R.usesArrays p v ts xs l = failing Refusal.USES-ARRAYS
+  lowerPlain R.usesResources p v ts xs l = failing Refusal.USES-RESOURCES
   lowerPlain R.float p v ts xs l = constant (floatOf v)
   lowerPlain R.string p v ts xs l = flagged notFloatOnly do
     h ← withHash (stringOf v)
@@ -249,8 +251,8 @@ module _ (S : Settings) where
     q ← withPost p
     put (I.plain (I.this q))
   lowerPlain R.load p v ts xs l = loaded v p
-  lowerPlain R.query p v ts xs l = asQuery v (failing 7) λ i m. flagged (queried (isEmpty xs)) (query i m p xs)
-  lowerPlain (R.compare o) p v ts xs l = P.some xs (failing 7) λ a ys. do
+  lowerPlain R.query p v ts xs l = asQuery v (failing Refusal.FAILED) λ i m. flagged (queried (isEmpty xs)) (query i m p xs)
+  lowerPlain (R.compare o) p v ts xs l = P.some xs (failing Refusal.FAILED) λ a ys. do
     q ← withPost p
     P.some ys
         (do
@@ -260,7 +262,7 @@ module _ (S : Settings) where
         λ b zs. pushed (a .expr l) do
           b .expr l
           put (I.taking (I.cmp o q))
-  lowerPlain (R.equal o) p v ts xs l = P.some xs (failing 7) λ a ys. do
+  lowerPlain (R.equal o) p v ts xs l = P.some xs (failing Refusal.FAILED) λ a ys. do
     q ← withPost p
     P.some ys
         (do
@@ -269,49 +271,49 @@ module _ (S : Settings) where
         λ b zs. pushed (a .expr l) do
           b .expr l
           put (I.taking (I.eq o q))
-  lowerPlain (R.logic j) p v ts xs l = P.some xs (failing 7) λ a ys. do
+  lowerPlain (R.logic j) p v ts xs l = P.some xs (failing Refusal.FAILED) λ a ys. do
     q ← withPost p
     junction (cond j (I.andStep q) (I.orStep q)) (cond j (I.andLast q) (I.orLast q)) a ys l
-  lowerPlain R.coalesce p v ts xs l = two xs (failing 7) λ a b. do
+  lowerPlain R.coalesce p v ts xs l = two xs (failing Refusal.FAILED) λ a b. do
     fork I.handlerPush I.handlerPop handler+ (a .expr l) (b .expr l)
     postInstruction p
-  lowerPlain R.conditional p v ts xs l = P.some xs (failing 7) λ a ys. P.some ys (failing 7) λ b zs. do
+  lowerPlain R.conditional p v ts xs l = P.some xs (failing Refusal.FAILED) λ a ys. P.some ys (failing Refusal.FAILED) λ b zs. do
     a .expr l
     fork (I.guard I.jumpIfFalsy) I.jump same (b .expr l) (one zs (constant 0) λ c. c .expr l)
     postInstruction p
   lowerPlain R.statements p v ts xs l = statements (p .offset) xs l
-  lowerPlain R.loop p v ts xs l = flagged (sets HAS-LOOPS) (two xs (failing 7) λ a b. do
+  lowerPlain R.loop p v ts xs l = flagged (sets HAS-LOOPS) (two xs (failing Refusal.FAILED) λ a b. do
     a .expr l
     looped (b .expr true)
     constant (fold p 0))
-  lowerPlain R.forEach p v ts xs l = flagged (λ f. notFloatOnly (sets HAS-LOOPS f)) (three xs (failing 7) λ a b c. variable ts λ i. do
+  lowerPlain R.forEach p v ts xs l = flagged (λ f. notFloatOnly (sets HAS-LOOPS f)) (three xs (failing Refusal.FAILED) λ a b c. variable ts λ i. do
     b .expr l
     eached i (c .expr true)
     constant (fold p 0))
   lowerPlain R.break p v ts xs l = jumps toCleanup l
   lowerPlain R.continue p v ts xs l = jumps toCheck l
-  lowerPlain R.assign p v ts xs l = P.some xs (failing 7) λ a ys. target ts (one ys (constant (constOf v)) λ b. b .expr l) p
-  lowerPlain R.bracket p v ts xs l = one xs (failing 7) λ a. a .expr l
-  lowerPlain (R.unary u) p v ts xs l = one xs (failing 7) λ a. do
+  lowerPlain R.assign p v ts xs l = P.some xs (failing Refusal.FAILED) λ a ys. target ts (one ys (constant (constOf v)) λ b. b .expr l) p
+  lowerPlain R.bracket p v ts xs l = one xs (failing Refusal.FAILED) λ a. a .expr l
+  lowerPlain (R.unary u) p v ts xs l = one xs (failing Refusal.FAILED) λ a. do
     a .expr l
     q ← withPost p
     put (I.plain (cond u (I.negate q) (I.not q)))
-  lowerPlain R.add p v ts xs l = P.some xs (failing 7) λ a ys. P.some ys
+  lowerPlain R.add p v ts xs l = P.some xs (failing Refusal.FAILED) λ a ys. P.some ys
       (do
         a .expr l
         postInstruction p)
       λ b zs. pushed (a .expr l) (addition p b zs l)
-  lowerPlain R.mul p v ts xs l = two xs (failing 7) λ a b. pushed (a .expr l) (do b .expr l; q ← withPost p; put (I.taking (I.mul q)))
-  lowerPlain R.div p v ts xs l = two xs (failing 7) λ a b. do
+  lowerPlain R.mul p v ts xs l = two xs (failing Refusal.FAILED) λ a b. pushed (a .expr l) (do b .expr l; q ← withPost p; put (I.taking (I.mul q)))
+  lowerPlain R.div p v ts xs l = two xs (failing Refusal.FAILED) λ a b. do
     b .expr l
     guarded (I.divGuard (S .absolute)) operand+ do
       a .expr l
       q ← withPost p
       put (I.taking (I.div q))
-  lowerPlain (R.hostMath u) p v ts xs l = flagged (sets (cond u (USES-RANDOM + USES-RANDOM-OP) 0)) (asMath v (failing 7) λ f.
-      P.some xs (failing 7) λ a ys. cond (leb (length xs) 255) (hosted f (length xs) p a ys l) (failing 7))
+  lowerPlain (R.hostMath u) p v ts xs l = flagged (sets (cond u (USES-RANDOM + USES-RANDOM-OP) 0)) (asMath v (failing Refusal.FAILED) λ f.
+      P.some xs (failing Refusal.FAILED) λ a ys. cond (leb (length xs) 255) (hosted f (length xs) p a ys l) (failing Refusal.FAILED))
   lowerPlain R.generic p v ts xs l = constant (fold p (constOf v))
-  lowerPlain R.refused p v ts xs l = failing 7
+  lowerPlain R.refused p v ts xs l = failing Refusal.FAILED
 
   abbrev pub alike : (Bool → Lowering) → Lowerings
   alike u = record { expr = u; statement = u; base = λ n. u }

@@ -3,6 +3,7 @@ use mathlib.Core.Bool.{Bool, true, false}
 use mathlib.Core.List.{List, [], _∷_, _++_}
 use Prim.Native.Nat.{ℕ, _%_, _^_}
 use native.Mathlib.Decide.{ℕ-discrete}
+use Rattle.ast.specs.NameKinds as Kind
 use Rattle.ast.specs.Tree.{Name, Payload, pNone, pFloat, pHash, pMath, pName, pQuery, Tree, node, Forest, nil, cons}
 use Rattle.ast.specs.Rules.{Rule, return, member, entity, pointer, plain, ruleAt}
 
@@ -36,7 +37,7 @@ pub record Kinds (X : Type 0) : Type 0 where
   pub other : X
 
 abbrev pub byKind : {X : Type 0} → Payload → Kinds X → X
-byKind v k = asName 4 v (asName 5 v (k .other) (k .temp)) (k .entity)
+byKind v k = asName Kind.ENTITY v (asName Kind.TEMP v (k .other) (k .temp)) (k .entity)
 
 -- 01, Nine questions, 7: "a float then reads 0.0"
 unfoldable pub floatOf : Payload → ℕ
@@ -51,7 +52,7 @@ unfoldable pub stringOf : Payload → ℕ
 stringOf v = asHash v 0 (λ h. h)
 
 unfoldable pub resourceOf : Payload → ℕ
-resourceOf v = asName 8 v (asName 9 v (asName 10 v 0 (λ n. n .hash)) (λ n. n .hash)) (λ n. n .hash)
+resourceOf v = asName Kind.GEOMETRY v (asName Kind.MATERIAL v (asName Kind.TEXTURE v 0 (λ n. n .hash)) (λ n. n .hash)) (λ n. n .hash)
 
 -- the first children of a node, or d where there are too few
 module _ {A X : Type 0} where
@@ -97,7 +98,7 @@ link return v p = rootPath v
 link entity v p = rootPath v
 link pointer v p = rootPath v
 link (plain r) v p = rootPath v
-link member v p = asName 6 v noPath (λ n. longer (n .hash) p)
+link member v p = asName Kind.MEMBER v noPath (λ n. longer (n .hash) p)
 
 unfoldable mutual
   pub path : Tree → Path

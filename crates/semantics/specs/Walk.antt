@@ -5,6 +5,7 @@ use Prim.Native.Nat.{ℕ, zero, suc}
 use lib.Dec.{leb}
 use lib.ListN.{length}
 use Rattle.numeric.specs.Post.{Post, identity, isIdentity, fold}
+use Rattle.ast.specs.NameKinds as Kind
 use Rattle.ast.specs.Header.{Settings}
 use Rattle.ast.specs.Rules as R
 use Rattle.ast.specs.Rules.{Rule, ruleAt}
@@ -232,13 +233,13 @@ unfoldable pub loaded : Payload → Post → Scope → Walking
 loaded v p e = byKind v (record {
   entity = λ n. loads e (E.eLoadVar (n .hash) p);
   temp = λ n. loads e (E.eLoadTemp (n .hash) p);
-  other = asName 3 v pass (λ n. loads e (E.eLoadCtx (n .hash) p));
+  other = asName Kind.CONTEXT v pass (λ n. loads e (E.eLoadCtx (n .hash) p));
 })
 
 module _ (S : Settings) where
   -- 01, Walk: "left to right, but Div's second first, and logs each node's events where its rule puts them"
   unfoldable pub walkPlain : R.Plain → Post → Payload → Forest → List Walkings → Scope → Walking
-  walkPlain R.array p v ts xs e = just xs pass λ a. asName 7 v pass λ n. do
+  walkPlain R.array p v ts xs e = just xs pass λ a. asName Kind.ARRAY-VARIABLE v pass λ n. do
     a .expr e
     loads e (E.eArrayElement (n .hash) (shown p))
   walkPlain R.usesArrays p v ts xs e = pass
@@ -321,7 +322,7 @@ module _ (S : Settings) where
   unfoldable pub chained : Post → Payload → List Walkings → Scope → Walking
   chained p v xs e = one xs pass λ a. do
     a .base e
-    asName 6 v pass (λ n. loads e (E.eMember (n .hash) (shown p)))
+    asName Kind.MEMBER v pass (λ n. loads e (E.eMember (n .hash) (shown p)))
 
   unfoldable pub pointed : Post → List Walkings → Scope → Walking
   pointed p xs e = two xs pass λ a b. do
