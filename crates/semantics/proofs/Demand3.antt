@@ -26,7 +26,7 @@ use Rattle.semantics.specs.Walk.{walked}
 -- program image does what the walk over the tree does, within the declared depths. Assumes nothing.
 
 -- no refusal: neither of questions 2 to 4 nor of the lowering
-first-none : (m n : ℕ) → first m n ≡ 0 → (m ≡ 0) × (n ≡ 0)
+pub first-none : (m n : ℕ) → first m n ≡ 0 → (m ≡ 0) × (n ≡ 0)
 unfolding first
 first-none zero n h = (refl, h)
 first-none (suc m) n h = absurd (omega arith)

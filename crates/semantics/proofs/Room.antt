@@ -10,10 +10,10 @@ use Rattle.ast.specs.Node.{parse}
 use Rattle.ast.specs.Questions.{questions}
 use Rattle.ast.specs.Header.{settings}
 use Rattle.semantics.specs.Link.{refusalOf, programImage}
-use Rattle.semantics.specs.State.{first}
 use Rattle.semantics.specs.Answer.{answerFrom, answer}
 use Rattle.semantics.specs.Room.{IMAGE-ROOM, ImageRoom, Enough}
 use Rattle.semantics.proofs.AcceptedTrees.{parsed-fits, parsed-short}
+use Rattle.semantics.proofs.Demand3.{first-none}
 use Rattle.semantics.proofs.Fitting.{image-short}
 
 pub image-room : ImageRoom
@@ -26,14 +26,9 @@ unfolding answerFrom
 from zero n room h = rw (le-leb n room (h refl))
 from (suc r) n room h = refl
 
-passes : (q r : ℕ) → first q r ≡ 0 → q ≡ 0
-unfolding first
-passes zero r h = refl
-passes (suc q) r h = h
-
 passed-first : (tree : List ℕ) → refusalOf tree ≡ 0 → questions tree ≡ 0
 unfolding refusalOf
-passed-first tree z = passes (questions tree) _ z
+passed-first tree z = first-none (questions tree) _ z .0
 
 pub enough : Enough
 unfolding answer

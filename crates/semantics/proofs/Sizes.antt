@@ -10,10 +10,10 @@ use Rattle.program.specs.Program.{MemberStore, Program}
 use Rattle.semantics.proofs.CostedRules.{pay, own, cost, costs, sized}
 use Rattle.semantics.proofs.Costs.{Weight, weigh, weigh-append, weigh-map, stored, asked, apart, sz}
 use Rattle.semantics.specs.Link.{settle, place-segments, offsetsOf, place-call, memberEntry, lowered, link, program}
+use Rattle.semantics.specs.Pieces.{Lowered}
 use Rattle.semantics.specs.Positions.{_⊕_, past}
 use Rattle.semantics.specs.Regions.{pathEntries, argumentStarts}
 use Rattle.ast.specs.Header.{Settings}
-use Rattle.semantics.specs.Pieces.{Lowered}
 use Rattle.semantics.specs.State.{Item, CallInfo}
 
 -- Sizes of the program, by the tree's nodes and bytes: what the workspace's regions must hold. Assumes nothing.
@@ -121,7 +121,7 @@ args-count b [] = refl
 args-count b (v ∷ vs) = let h = args-count b vs in let i = weigh-length 1 (offsetsOf (v .offsets)) in let j = length-map (offsetsOf (v .offsets)) (b ⊕_) in omega arith
 
 -- code weighs the same where it is placed
-pub placed-weigh : (w : Weight) (b : ℕ) (cs : List (List Item)) → weigh (w .i) (place-segments cs b) ≡ apart w cs
+placed-weigh : (w : Weight) (b : ℕ) (cs : List (List Item)) → weigh (w .i) (place-segments cs b) ≡ apart w cs
 unfolding place-segments
 placed-weigh w b [] = refl
 placed-weigh w b (c ∷ cs) = let h = placed-weigh w (past c b) cs in let i = weigh-map (w .i) (settle b 0 0) c in let k = weigh-append (w .i) (map (settle b 0 0) c) (place-segments cs (past c b)) in omega arith
