@@ -1,5 +1,8 @@
 // The listing of a tree image's program, line by line on standard output.
+use crate::Done;
 use codegen::Answer;
+ghost use mathlib.Core.Path.{_≡_};
+ghost use Rattle.bench.specs.Answers.{numberOf};
 
 const STDOUT: i32 = 1;
 
@@ -9,14 +12,20 @@ const CODE: usize = 9;
 // The closing fields: stack, loops, handlers, flags (2 each), float_loop (1).
 const CLOSING: usize = 9;
 
-// The listing of the program of the tree image `tree`, or its refusal. Whether all of it was written: it stops where standard output takes no more.
-pub fn list(tree: &[u8]) -> bool {
-    let mut ws = crate::workspace();
+// The listing of the program of the tree image `tree`, or its refusal. It stops where standard output takes no more.
+pub fn list(tree: &[u8]) -> Done
+    ensures { λ r. ⌜ r .number ≡ numberOf (now (tree .entry)) ⌝ }
+{
     let mut out = crate::output();
-    let a = codegen::build(tree, &mut ws, &mut out);
-    match a {
+    let a = crate::answer(tree, &mut out);
+    let number = crate::number_of(a);
+    let written = match a {
         Answer::Accepted(n) => listing(&out, n),
         Answer::Refused(r) => field(b"refused", r as u64),
+    };
+    Done {
+        number: number,
+        written: written,
     }
 }
 
@@ -65,7 +74,7 @@ fn depths(image: &[u8], at: usize) -> bool {
 }
 
 // A line of a name and a number; whether it was written.
-pub fn field(name: &[u8], n: u64) -> bool {
+fn field(name: &[u8], n: u64) -> bool {
     text(name) && spaced(n) && line_end()
 }
 

@@ -2,5 +2,6 @@
 fn main() {
     let mut tree = bench::input();
     let n = io::read_full(0, &mut tree);
-    bench::compiling::compile(&tree[..n]);
+    let done = bench::compiling::compile(&tree[..n]);
+    bench::report(done.written);
 }

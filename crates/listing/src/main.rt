@@ -2,7 +2,6 @@
 fn main() {
     let mut tree = bench::input();
     let n = io::read_full(0, &mut tree);
-    if !bench::listing::list(&tree[..n]) {
-        bench::not_written();
-    }
+    let done = bench::listing::list(&tree[..n]);
+    bench::report(done.written);
 }

@@ -29,11 +29,15 @@ fn list_one(images: &[u8], at: usize, k: u64) -> usize {
     let first = past(images, at, 4);
     let count = wire::get_u32(images, at, 0);
     let end = past(images, first, count as usize);
-    if bench::listing::field(b"piece", k) && list_part(images, first, end) {
+    if bench::report(title(k) && list_part(images, first, end)) {
         return end;
     }
-    bench::not_written();
     images.len()
+}
+
+// The line above a piece; whether it was written.
+fn title(k: u64) -> bool {
+    io::write_all(1, b"piece ") && io::print_decimal(1, k) && io::write_all(1, b"\n")
 }
 
 // The place `n` bytes behind `at`, or the end.
@@ -49,7 +53,8 @@ fn past(s: &[u8], at: usize, n: usize) -> usize {
 fn list_part(s: &[u8], first: usize, end: usize) -> bool {
     if first <= end {
         if end <= s.len() {
-            return bench::listing::list(&s[first..end]);
+            let done = bench::listing::list(&s[first..end]);
+            return done.written;
         }
     }
     false

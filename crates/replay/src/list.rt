@@ -15,7 +15,7 @@ pub enum Filled {
 }
 
 // The next number.
-pub fn number() -> Read {
+pub(crate) fn number() -> Read {
     let mut b: [u8; 4] = [0; 4];
     let n = io::read_full(STDIN, &mut b);
     if n == 4 {
@@ -25,7 +25,7 @@ pub fn number() -> Read {
 }
 
 // The next length and so many bytes.
-pub fn part(room: &mut [u8]) -> Filled {
+pub(crate) fn part(room: &mut [u8]) -> Filled {
     let length = number();
     match length {
         Read::Number(n) => fill(room, n),
@@ -47,7 +47,7 @@ fn fill(room: &mut [u8], length: u32) -> Filled {
 }
 
 // Whether nothing is left.
-pub fn ends() -> bool {
+pub(crate) fn ends() -> bool {
     let mut b: [u8; 1] = [0; 1];
     let n = io::read_full(STDIN, &mut b);
     n == 0

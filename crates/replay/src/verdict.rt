@@ -14,7 +14,7 @@ pub enum Verdict {
     TooLong(u32),
 }
 
-pub fn agrees(v: Verdict) -> bool {
+pub(crate) fn agrees(v: Verdict) -> bool {
     match v {
         Verdict::Agrees => true,
         _ => false,
@@ -22,7 +22,7 @@ pub fn agrees(v: Verdict) -> bool {
 }
 
 // Whether the list cannot be read on from here.
-pub fn damaged(v: Verdict) -> bool {
+pub(crate) fn damaged(v: Verdict) -> bool {
     match v {
         Verdict::CutOff => true,
         Verdict::TooLong(_) => true,
@@ -30,7 +30,7 @@ pub fn damaged(v: Verdict) -> bool {
     }
 }
 
-pub fn next() -> Verdict {
+pub(crate) fn next() -> Verdict {
     let mut tree = bench::input();
     let part = list::part(&mut tree);
     match part {
@@ -69,9 +69,8 @@ fn first<'a>(s: &'a [u8], n: usize) -> &'a [u8] {
 
 // Refusal, length and every byte.
 fn compared(tree: &[u8], refusal: u32, image: &[u8]) -> Verdict {
-    let mut ws = bench::workspace();
     let mut out = bench::output();
-    let a = codegen::build(tree, &mut ws, &mut out);
+    let a = bench::answer(tree, &mut out);
     let r = refusal_of(a);
     if r != refusal {
         return Verdict::Refusal(r, refusal);

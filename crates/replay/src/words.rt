@@ -7,7 +7,7 @@ const STDOUT: i32 = 1;
 const LINES: u32 = 20;
 
 // The verdict on tree `i`, `differ` differences after the first one.
-pub fn tell(i: u32, differ: u32, v: Verdict) {
+pub(crate) fn tell(i: u32, differ: u32, v: Verdict) {
     match v {
         Verdict::Agrees => {}
         Verdict::CutOff => cut_off(i),
@@ -62,25 +62,23 @@ fn too_long(i: u32, n: u32) {
     text(b", for which there is no room\n");
 }
 
-pub fn no_count() {
+pub(crate) fn no_count() {
     text(b"the list is cut off before its first tree\n");
 }
 
-pub fn goes_on(count: u32) {
+pub(crate) fn goes_on(count: u32) {
     text(b"the list goes on behind its ");
     number(count as u64);
     text(b" trees\n");
 }
 
-pub fn close(agreed: u32, count: u32) {
+pub(crate) fn close(agreed: u32, count: u32) {
     number(agreed as u64);
     if agreed < count {
         text(b" of ");
         number(count as u64);
     }
-    if !io::write_all(STDOUT, b" agree\n") {
-        bench::not_written();
-    }
+    bench::report(io::write_all(STDOUT, b" agree\n"));
 }
 
 fn number(n: u64) {
