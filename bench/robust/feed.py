@@ -9,15 +9,7 @@ import sys
 from inputs import frames, framed, one
 
 repo, bins, work, count = sys.argv[1], sys.argv[2], sys.argv[3], int(sys.argv[4])
-REASONS = {
-    2: "not a tree image, which has 5 to 6,144 bytes, begins with the byte 1 and gives its true length",
-    3: "a setting, an operator code, a payload kind or a node's length is wrong, or something is left over",
-    4: "a node stands deeper than level 64",
-    5: "the expression uses arrays",
-    6: "the expression uses resources",
-    7: "an operator has the wrong operands or payload, or has no bytecode",
-    8: "an assignment writes to another mob",
-}
+REASONS = {r: subprocess.check_output([os.path.join(repo, "bench/answers/check"), str(r)], text=True).strip() for r in range(2, 9)}
 REPLAY = re.compile(
     r"(tree \d+: (refusal|length) \d+, expected \d+\n|tree \d+: byte \d+ is \d+, expected \d+\n)*"
     r"(tree \d+: the list is cut off|tree \d+: the list gives a length of \d+, for which there is no room"
