@@ -76,76 +76,98 @@ same-length c = search needs
 
 returns : tie.Need-returns
 unfolding textIn bytes
-returns c = row 0 (c .before .before .before .before .before .before .before .args .number) _ _ _ _ (c .before .before .put .ensures) (c .before .before .before .before .before .match .keys1) refl
+returns c =
+    row 0 (c .before .before .before .before .before .before .before .args .number) _ _ _ _
+    (c .before .before .put .ensures) (c .before .before .before .before .before .match .keys1) refl
 
 same-length-2 : tie.Need-same-length-2
 same-length-2 c = search needs
 
 returns-2 : tie.Need-returns-2
 unfolding textIn bytes
-returns-2 c = row 1 (c .before .before .before .before .before .before .before .args .number) _ _ _ _ (c .before .before .put2 .ensures) (c .before .before .before .before .before .match .keys2) refl
+returns-2 c =
+    row 1 (c .before .before .before .before .before .before .before .args .number) _ _ _ _
+    (c .before .before .put2 .ensures) (c .before .before .before .before .before .match .keys2) refl
 
 same-length-3 : tie.Need-same-length-3
 same-length-3 c = search needs
 
 returns-3 : tie.Need-returns-3
 unfolding textIn bytes
-returns-3 c = row 2 (c .before .before .before .before .before .before .before .args .number) _ _ _ _ (c .before .before .put3 .ensures) (c .before .before .before .before .before .match .keys3) refl
+returns-3 c =
+    row 2 (c .before .before .before .before .before .before .before .args .number) _ _ _ _
+    (c .before .before .put3 .ensures) (c .before .before .before .before .before .match .keys3) refl
 
 same-length-4 : tie.Need-same-length-4
 same-length-4 c = search needs
 
 returns-4 : tie.Need-returns-4
 unfolding textIn bytes
-returns-4 c = row 3 (c .before .before .before .before .before .before .before .args .number) _ _ _ _ (c .before .before .put4 .ensures) (c .before .before .before .before .before .match .keys4) refl
+returns-4 c =
+    row 3 (c .before .before .before .before .before .before .before .args .number) _ _ _ _
+    (c .before .before .put4 .ensures) (c .before .before .before .before .before .match .keys4) refl
 
 same-length-5 : tie.Need-same-length-5
 same-length-5 c = search needs
 
 returns-5 : tie.Need-returns-5
 unfolding textIn bytes
-returns-5 c = row 4 (c .before .before .before .before .before .before .before .args .number) _ _ _ _ (c .before .before .put5 .ensures) (c .before .before .before .before .before .match .keys5) refl
+returns-5 c =
+    row 4 (c .before .before .before .before .before .before .before .args .number) _ _ _ _
+    (c .before .before .put5 .ensures) (c .before .before .before .before .before .match .keys5) refl
 
 same-length-6 : tie.Need-same-length-6
 same-length-6 c = search needs
 
 returns-6 : tie.Need-returns-6
 unfolding textIn bytes
-returns-6 c = row 5 (c .before .before .before .before .before .before .before .args .number) _ _ _ _ (c .before .before .put6 .ensures) (c .before .before .before .before .before .match .keys6) refl
+returns-6 c =
+    row 5 (c .before .before .before .before .before .before .before .args .number) _ _ _ _
+    (c .before .before .put6 .ensures) (c .before .before .before .before .before .match .keys6) refl
 
 same-length-7 : tie.Need-same-length-7
 same-length-7 c = search needs
 
 returns-7 : tie.Need-returns-7
 unfolding textIn bytes
-returns-7 c = row 6 (c .before .before .before .before .before .before .before .args .number) _ _ _ _ (c .before .before .put7 .ensures) (c .before .before .before .before .before .match .keys7) refl
+returns-7 c =
+    row 6 (c .before .before .before .before .before .before .before .args .number) _ _ _ _
+    (c .before .before .put7 .ensures) (c .before .before .before .before .before .match .keys7) refl
 
 same-length-8 : tie.Need-same-length-8
 same-length-8 c = search needs
 
 returns-8 : tie.Need-returns-8
 unfolding textIn bytes
-returns-8 c = row 7 (c .before .before .before .before .before .before .before .args .number) _ _ _ _ (c .before .before .put8 .ensures) (c .before .before .before .before .before .match .keys8) refl
+returns-8 c =
+    row 7 (c .before .before .before .before .before .before .before .args .number) _ _ _ _
+    (c .before .before .put8 .ensures) (c .before .before .before .before .before .match .keys8) refl
 
 same-length-9 : tie.Need-same-length-9
 same-length-9 c = search needs
 
 returns-9 : tie.Need-returns-9
 unfolding textIn bytes
-returns-9 c = row 8 (c .before .before .before .before .before .before .before .args .number) _ _ _ _ (c .before .before .put9 .ensures) (c .before .before .before .before .before .match .keys9) refl
+returns-9 c =
+    row 8 (c .before .before .before .before .before .before .before .args .number) _ _ _ _
+    (c .before .before .put9 .ensures) (c .before .before .before .before .before .match .keys9) refl
 
 same-length-10 : tie.Need-same-length-10
 same-length-10 c = search needs
 
 returns-10 : tie.Need-returns-10
 unfolding textIn bytes
-returns-10 c = row 9 (c .before .before .before .before .before .before .before .args .number) _ _ _ _ (c .before .before .put10 .ensures) (c .before .before .before .before .before .match .keys10) refl
+returns-10 c =
+    row 9 (c .before .before .before .before .before .before .before .args .number) _ _ _ _
+    (c .before .before .put10 .ensures) (c .before .before .before .before .before .match .keys10) refl
 
 same-length-11 : tie.Need-same-length-11
 same-length-11 c = search needs
 
 returns-11 : tie.Need-returns-11
-returns-11 c = none (c .before .before .before .before .before .before .before .args .number) _ _ _ (c .before .before .put11 .ensures) (c .before .before .before .before .before .match .rest)
+returns-11 c =
+    none (c .before .before .before .before .before .before .before .args .number) _ _ _
+    (c .before .before .put11 .ensures) (c .before .before .before .before .before .match .rest)
 
 pub put-text-spec : {M : Type 1} → statement M
 put-text-spec =
