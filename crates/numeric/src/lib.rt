@@ -17,7 +17,7 @@ fn float_of(bits: u32) -> f32
 }
 
 // The bit pattern of a float; a NaN's is 7FC00000.
-fn bits_of(x: f32) -> u32
+pub fn bits_of(x: f32) -> u32
     ensures { λ r. ⌜ r ≡ toBits binary32 x ⌝ }
 {
     if x != x { 0x7fc0_0000 } else { f32::to_bits(x) }
