@@ -9,6 +9,7 @@ pub mod Choice
 pub mod Others
 pub mod Missed
 pub mod Laws
+pub mod Posted
 pub mod Paths
 pub mod Variants
 pub mod Refused

@@ -10,7 +10,7 @@ use crate::steps::flag;
 use crate::steps::not_float_only;
 use answers::refusals;
 use builder::State;
-use numeric::PostBits;
+use numeric::PostOp;
 use payload::NameRef;
 use payload::Payload;
 use program::Flags;
@@ -79,11 +79,8 @@ fn resource_hash(p: Payload) -> u64
 pub(crate) fn folded(tree: &[u8], at: usize, raw: u32) -> u32
     ensures { λ r. ⌜ r ≡ fold (postBits (now (tree .entry)) at) raw ⌝ }
 {
-    let p = PostBits {
-        scale: tree::scale_at(tree, at),
-        offset: tree::offset_at(tree, at),
-    };
-    numeric::fold(p, raw)
+    let p = PostOp::of_bits(tree::scale_at(tree, at), tree::offset_at(tree, at));
+    p.fold(raw)
 }
 
 // The constant behind a statement list: its offset alone.

@@ -2,8 +2,7 @@
 // keeps a NaN's payload.
 ghost use mathlib.Core.Path.{_≡_};
 ghost use lib.Ieee.{binary32, ofBits, toBits};
-ghost use Rattle.numeric.specs.Post.{isIdentity, fold};
-ghost use Rattle.numeric.specs.PostOp.{post, patterns, postOf, identityOp, foldOp};
+ghost use Rattle.numeric.specs.PostOp.{post, postOf, identityOp, foldOp};
 
 // The float of a bit pattern. Every NaN's pattern gives a NaN, of no particular payload.
 fn float_of(bits: u32) -> f32
@@ -72,18 +71,4 @@ impl PostOp {
         let x = float_of(raw);
         bits_of(x * self.scale + self.offset)
     }
-}
-
-// Whether the post leaves every constant's bits as they are.
-pub fn is_identity(p: PostBits) -> bool
-    ensures { λ r. ⌜ r ≡ isIdentity (patterns p) ⌝ }
-{
-    PostOp::of_bits(p.scale, p.offset).is_identity()
-}
-
-// The constant `raw` with the post folded in.
-pub fn fold(p: PostBits, raw: u32) -> u32
-    ensures { λ r. ⌜ r ≡ fold (patterns p) raw ⌝ }
-{
-    PostOp::of_bits(p.scale, p.offset).fold(raw)
 }
