@@ -1,7 +1,8 @@
 -- The open segment: targets, breaks, start and end. Definitions only.
 use mathlib.Core.Bool.{Bool, false}
 use mathlib.Core.List.{List}
-use Prim.Native.Nat.{ℕ, _+_, _-_, min}
+use Prim.Native.Nat.{ℕ, _-_}
+use Rattle.workspace.specs.Counts.{sum}
 use Rattle.code.specs.Segments as G
 use Rattle.builder.specs.declared.State.{State}
 use Rattle.builder.specs.Fields.{set-top, set-base, set-finished, set-waiting}
@@ -9,7 +10,7 @@ use Rattle.builder.specs.Steps.{Held}
 
 -- a place of the segment that starts at base, as one of the open code
 abbrev pub within : ℕ → ℕ → ℕ
-within base at = min (base + at) 65535
+within base at = sum base at
 
 unfoldable pub targeted : State → ℕ → ℕ → List ℕ → List ℕ
 targeted s at target words = G.targeted words (within (s .base) at) target

@@ -1,6 +1,7 @@
 // The open segment: where its next instruction goes, its targets, its loops' breaks, and its start and end.
 use crate::State;
 use code::segment;
+use workspace::counts::sum;
 ghost use mathlib.Core.Path.{_≡_};
 ghost use mathlib.Core.List.{List};
 ghost use Prim.Native.Nat.{_-_};
@@ -23,11 +24,7 @@ pub fn place(st: State) -> u16
 fn absolute(st: State, at: u16) -> u16
     ensures { λ r. ⌜ r ≡ within (st .base) at ⌝ }
 {
-    let base = st.base;
-    if at <= 65535 - base {
-        return base + at;
-    }
-    65535
+    sum(st.base, at)
 }
 
 // Gives the instruction at a place of the open segment its target.

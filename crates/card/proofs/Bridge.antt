@@ -17,7 +17,8 @@ use Rattle.program.specs.Fits.{Below, Every, FitInstruction, FitPost, rootIndex
 use Rattle.card.specs.declared.Sections.{Sections}
 use Rattle.workspace.specs.Layout.{OPEN, FINISHED, CONSTS, POSTS, HASHES, NAMES, TEMPS, MEMBERS, STORES, PATHS, CALLS, ARGUMENTS}
 use Rattle.card.specs.Written.{cat}
-use Rattle.card.specs.Image.{plusOf, wordEntry, halfEntry, instructionBytes, instructionEntry, dottedBytes, textBytes, hashBytes, nameBytes, nameEntry, memberBytes, memberEntry, storeBytes, storeAt, storeEntry, callBytes, callAt, callEntry, codeSection, constsSection, postsSection, hashesSection, namesSection, tempsSection, membersSection, storesSection, callsSection, depthsBytes, closingBytes, frontOf, backOf, bodyOf, imageOf}
+use Rattle.workspace.specs.Words.{plus}
+use Rattle.card.specs.Image.{wordEntry, halfEntry, instructionBytes, instructionEntry, dottedBytes, textBytes, hashBytes, nameBytes, nameEntry, memberBytes, memberEntry, storeBytes, storeAt, storeEntry, callBytes, callAt, callEntry, codeSection, constsSection, postsSection, hashesSection, namesSection, tempsSection, membersSection, storesSection, callsSection, depthsBytes, closingBytes, frontOf, backOf, bodyOf, imageOf}
 use Rattle.card.specs.Holds.{Each, InstructionIs, NameIs, MemberIs, rootKind, StoreIs, CallIs, Holds}
 use Rattle.card.proofs.Shown.{number, every-at, counted, words-are, posts-are, hash-is, hashes-are, text-is, dotted-is}
 
@@ -31,7 +32,7 @@ instruction-is ws base k i q h r =
     let o : x .opcode ≡ w / 16777216 = omega (arith, q .first, h .opcode, h .sub, h .b) in
     let s : x .sub ≡ w / 65536 % 256 = omega (arith, q .first, h .opcode, h .sub, h .b) in
     let b : x .b ≡ w % 65536 = omega (arith, q .first, h .opcode, h .sub, h .b) in
-    let e : x .a ≡ plusOf a (shiftOf (w / 16777216) base) = sym (q .second) ∙ ap (λ n. plusOf a (shiftOf n base)) o in
+    let e : x .a ≡ plus a (shiftOf (w / 16777216) base) = sym (q .second) ∙ ap (λ n. plus a (shiftOf n base)) o in
     number 1 (x .opcode) _ ∙ ap₂ (λ n l. be 1 n [] ++ l) o (number 1 (x .sub) _ ∙ ap₂ (λ n l. be 1 n [] ++ l) s
     (number 4 (x .a) _ ∙ ap₂ (λ n l. be 4 n [] ++ l) e (number 2 (x .b) r ∙ ap (λ n. be 2 n [] ++ r) b)))
     ∙ simp append-assoc

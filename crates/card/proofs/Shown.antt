@@ -14,7 +14,8 @@ use Rattle.numeric.specs.Post.{Post, identity}
 use Rattle.program.specs.Image.{putPost, putText}
 use Rattle.program.specs.Fits.{Below, Every, FitPost}
 use Rattle.card.specs.Written.{cat}
-use Rattle.card.specs.Image.{plusOf, wordEntry, byteEntry, textBytes, dottedBytes, hashBytes}
+use Rattle.workspace.specs.Words.{plus}
+use Rattle.card.specs.Image.{wordEntry, byteEntry, textBytes, dottedBytes, hashBytes}
 use Rattle.card.specs.Holds.{Each, WordsAre, PostIs, HashIs, HashesAre, TextIs}
 
 -- a number in front of what follows
@@ -46,7 +47,7 @@ module _ {A : Type 0} (put : A → List ℕ → List ℕ) (d : A) where
   counted xs f e h r = entries-cat xs f h r ∙ ap (λ m. cat f m ++ r) e
 
 -- words
-sum-fits : (x b : ℕ) {v : ℕ} → x + b ≡ v → v < 256 ^ 4 → v ≡ plusOf x b
+sum-fits : (x b : ℕ) {v : ℕ} → x + b ≡ v → v < 256 ^ 4 → v ≡ plus x b
 sum-fits x b e h = omega arith
 
 pub words-are : (ws : List ℕ) (from base : ℕ) (xs : List ℕ) {n : ℕ} → length xs ≡ n → WordsAre ws from base xs → Every (Below 4) xs → (r : List ℕ) → entries (be 4) xs r ≡ cat (wordEntry ws from base) n ++ r
@@ -72,7 +73,7 @@ module _ {A : Type 0} (put : A → List ℕ → List ℕ) (d : A) (ws : List ℕ
       let e : from + 2 * k + 1 ≡ from + (2 * k + 1) = omega arith in
       let x = getD ws (from + 2 * k) 0 in
       let y = getD ws (from + 2 * k + 1) 0 in
-      q .2 r ∙ ap₂ (λ v w. be 4 v [] ++ be 4 w [] ++ r) (sum-fits x 0 (add-zero x) (q .0)) (sum-fits y 0 (add-zero y) (q .1) ∙ ap (λ i. plusOf (getD ws i 0) 0) e)
+      q .2 r ∙ ap₂ (λ v w. be 4 v [] ++ be 4 w [] ++ r) (sum-fits x 0 (add-zero x) (q .0)) (sum-fits y 0 (add-zero y) (q .1) ∙ ap (λ i. plus (getD ws i 0) 0) e)
 
   pub pairs-are : (xs : List A) {n : ℕ} → length xs ≡ n → Each d (λ k a. Pair a (getD ws (from + 2 * k) 0) (getD ws (from + 2 * k + 1) 0)) xs → (r : List ℕ) → entries put xs r ≡ cat (wordEntry ws from 0) (2 * n) ++ r
   pairs-are xs {n} e q r =

@@ -9,17 +9,15 @@ use Rattle.wire.specs.Bytes.{be8, be}
 use Rattle.numeric.specs.Post.{identity}
 use Rattle.program.specs.Image.{bit}
 use Rattle.program.specs.Targets.{shiftOf}
-use Rattle.workspace.specs.Layout.{OPEN, FINISHED, CONSTS, POSTS, HASHES, NAMES, TEMPS, MEMBERS, STORES, PATHS, CALLS, ARGUMENTS, WORDS}
+use Rattle.workspace.specs.Layout.{OPEN, FINISHED, CONSTS, POSTS, HASHES, NAMES, TEMPS, MEMBERS, STORES, PATHS, CALLS, ARGUMENTS}
+use Rattle.workspace.specs.Words.{plus}
 use Rattle.card.specs.Written.{cat}
 use Rattle.card.specs.declared.Sections.{Sections}
 use Rattle.card.specs.declared.Answer.{Answer}
 
 -- a word from a place on, base added; a temp; a text's byte
-abbrev pub plusOf : ℕ → ℕ → ℕ
-plusOf a b = (a + b) % 4294967296
-
 abbrev pub wordEntry : List ℕ → ℕ → ℕ → ℕ → List ℕ
-wordEntry ws from base k = be 4 (plusOf (getD ws (from + k) 0) base) []
+wordEntry ws from base k = be 4 (plus (getD ws (from + k) 0) base) []
 
 abbrev pub halfEntry : List ℕ → ℕ → ℕ → List ℕ
 halfEntry ws from k = be 2 (getD ws (from + k) 0 % 65536) []
@@ -29,7 +27,7 @@ byteEntry tree from k = be 1 (be8 tree from k) []
 
 -- 01, The program image: "An instruction is 8 bytes: opcode, sub, A (4), B (2)", of the words opcode * 2^24 + sub * 2^16 + B and A
 unfoldable pub instructionBytes : ℕ → ℕ → ℕ → List ℕ
-instructionBytes base w a = be 1 (w / 16777216) [] ++ be 1 (w / 65536 % 256) [] ++ be 4 (plusOf a (shiftOf (w / 16777216) base)) [] ++ be 2 (w % 65536) []
+instructionBytes base w a = be 1 (w / 16777216) [] ++ be 1 (w / 65536 % 256) [] ++ be 4 (plus a (shiftOf (w / 16777216) base)) [] ++ be 2 (w % 65536) []
 
 abbrev pub instructionEntry : List ℕ → ℕ → ℕ → ℕ → List ℕ
 instructionEntry ws from base k = instructionBytes base (getD ws (from + 2 * k) 0) (getD ws (from + 2 * k + 1) 0)

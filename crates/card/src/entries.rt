@@ -19,15 +19,15 @@ ghost use Rattle.card.specs.Image.{
   callAt,
   callEntry,
 };
-use crate::fields::plus;
 use crate::fields::put_byte;
 use crate::fields::put_bytes;
 use crate::fields::put_half;
 use crate::fields::put_word;
 use crate::fields::put_words;
-use crate::fields::word_at;
 use program::targets;
 use workspace::layout;
+use workspace::words::plus;
+use workspace::words::word;
 
 // Opcode, sub, A and B.
 fn put_instruction(w: u32, a: u32, base: u32, out: &mut [u8], at: usize) -> usize
@@ -57,8 +57,8 @@ pub(crate) fn put_instructions(
     let mut e = at;
     let mut i: usize = 0;
     while i < n {
-        let w = word_at(ws, from + 2 * i);
-        let a = word_at(ws, from + 2 * i + 1);
+        let w = word(ws, from + 2 * i);
+        let a = word(ws, from + 2 * i + 1);
         e = put_instruction(w, a, base, out, e);
         i += 1;
     }
@@ -93,8 +93,8 @@ fn put_hash(ws: &[u32], k: usize, out: &mut [u8], at: usize) -> usize
     requires { ⌜ (k < 2 ^ 40) × (at < 2 ^ 60) ⌝ }
     ensures { λ r. ⌜ Wrote (now (out .entry)) at (hashBytes (now (ws .entry)) k) (now (out .exit)) r × (r ≤ at + 8) ⌝ }
 {
-    let a = word_at(ws, k);
-    let b = word_at(ws, k + 1);
+    let a = word(ws, k);
+    let b = word(ws, k + 1);
     let e = put_word(out, at, a);
     put_word(out, e, b)
 }
@@ -103,7 +103,7 @@ fn put_name(tree: &[u8], ws: &[u32], k: usize, out: &mut [u8], at: usize) -> usi
     requires { ⌜ (k < 2 ^ 40) × (at < 2 ^ 58) ⌝ }
     ensures { λ r. ⌜ Wrote (now (out .entry)) at (nameBytes (now (tree .entry)) (now (ws .entry)) k) (now (out .exit)) r × (r ≤ at + 265) ⌝ }
 {
-    let o = word_at(ws, k + 2);
+    let o = word(ws, k + 2);
     let e = put_hash(ws, k, out, at);
     put_text(tree, o, out, e)
 }
@@ -125,8 +125,8 @@ fn put_member(tree: &[u8], ws: &[u32], k: usize, out: &mut [u8], at: usize) -> u
     requires { ⌜ (k < 2 ^ 40) × (at < 2 ^ 58) ⌝ }
     ensures { λ r. ⌜ Wrote (now (out .entry)) at (memberBytes (now (tree .entry)) (now (ws .entry)) k) (now (out .exit)) r × (r ≤ at + 524) ⌝ }
 {
-    let o = word_at(ws, k + 4);
-    let p = word_at(ws, k + 5);
+    let o = word(ws, k + 4);
+    let p = word(ws, k + 5);
     let e = put_hash(ws, k, out, at);
     let f = put_dotted(tree, o, out, e);
     put_dotted(tree, p, out, f)
@@ -175,10 +175,10 @@ fn put_store(ws: &[u32], k: usize, out: &mut [u8], at: usize) -> usize
     requires { ⌜ (k < 2 ^ 40) × (at < 2 ^ 58) ⌝ }
     ensures { λ r. ⌜ Wrote (now (out .entry)) at (storeAt (now (ws .entry)) k) (now (out .exit)) r × (r ≤ at + 524285) ⌝ }
 {
-    let root = word_at(ws, k);
-    let index = word_at(ws, k + 1);
-    let first = word_at(ws, k + 2);
-    let count = word_at(ws, k + 3);
+    let root = word(ws, k);
+    let index = word(ws, k + 1);
+    let first = word(ws, k + 2);
+    let count = word(ws, k + 3);
     put_store_of(ws, root, index, first, count, out, at)
 }
 
@@ -226,10 +226,10 @@ fn put_call(ws: &[u32], base: u32, k: usize, out: &mut [u8], at: usize) -> usize
     requires { ⌜ (k < 2 ^ 40) × (at < 2 ^ 58) ⌝ }
     ensures { λ r. ⌜ Wrote (now (out .entry)) at (callAt (now (ws .entry)) base k) (now (out .exit)) r × (r ≤ at + 262145) ⌝ }
 {
-    let index = word_at(ws, k);
-    let impl_idx = word_at(ws, k + 1);
-    let count = word_at(ws, k + 2);
-    let first = word_at(ws, k + 3);
+    let index = word(ws, k);
+    let impl_idx = word(ws, k + 1);
+    let count = word(ws, k + 2);
+    let first = word(ws, k + 3);
     put_call_of(ws, base, index, impl_idx, count, first, out, at)
 }
 

@@ -1,25 +1,13 @@
 // Fields of the image: numbers behind one another, and runs of them. What lies past the end of the output is not written.
 use crate::bytes;
+use workspace::words::plus;
+use workspace::words::word;
 ghost use mathlib.Core.Path.{_≡_};
 ghost use mathlib.Core.List.{[]};
 ghost use Prim.Native.Nat.{_+_, _*_, _^_, _≤_, _<_};
-ghost use lib.ListN.{getD};
 ghost use Rattle.wire.specs.Bytes.{be};
 ghost use Rattle.card.specs.Written.{Wrote, cat};
-ghost use Rattle.card.specs.Image.{plusOf, wordEntry, halfEntry, byteEntry};
-
-// A word of the workspace; 0 past its end.
-pub(crate) fn word_at(ws: &[u32], i: usize) -> u32
-    ensures { λ r. ⌜ r ≡ getD (now (ws .entry)) i 0 ⌝ }
-{
-    if i < ws.len() { ws[i] } else { 0 }
-}
-
-pub(crate) fn plus(a: u32, b: u32) -> u32
-    ensures { λ r. ⌜ r ≡ plusOf a b ⌝ }
-{
-    ((a as u64 + b as u64) % 4294967296) as u32
-}
+ghost use Rattle.card.specs.Image.{wordEntry, halfEntry, byteEntry};
 
 // A number at `at`; the place behind it.
 pub(crate) fn put_byte(out: &mut [u8], at: usize, n: u8) -> usize
@@ -61,7 +49,7 @@ pub(crate) fn put_words(
     let mut e = at;
     let mut i: usize = 0;
     while i < n {
-        let w = word_at(ws, from + i);
+        let w = word(ws, from + i);
         let v = plus(w, base);
         e = put_word(out, e, v);
         i += 1;
@@ -77,7 +65,7 @@ pub(crate) fn put_halves(ws: &[u32], from: usize, n: usize, out: &mut [u8], at: 
     let mut e = at;
     let mut i: usize = 0;
     while i < n {
-        let w = word_at(ws, from + i);
+        let w = word(ws, from + i);
         e = put_half(out, e, (w % 65536) as u16);
         i += 1;
     }

@@ -5,8 +5,8 @@ ghost use lib.ListN.{length};
 ghost use Rattle.card.specs.Written.{cat};
 ghost use Rattle.card.specs.Image.{nameEntry, memberEntry, storeEntry, callEntry, bodyOf};
 use crate::Sections;
-use crate::fields::word_at;
 use workspace::layout;
+use workspace::words::word;
 
 // Bytes of an entry; a pair is a post or a hash.
 const INSTRUCTION: usize = 8;
@@ -35,7 +35,7 @@ fn names_len(tree: &[u8], ws: &[u32], n: u16) -> usize
     let mut e: usize = 0;
     let mut i: usize = 0;
     while i < n as usize {
-        let o = word_at(ws, layout::NAMES + 3 * i + 2);
+        let o = word(ws, layout::NAMES + 3 * i + 2);
         let t = wire::get_u8(tree, o as usize, 0);
         e += NAME + t as usize;
         i += 1;
@@ -49,8 +49,8 @@ fn members_len(tree: &[u8], ws: &[u32], n: u16) -> usize
     let mut e: usize = 0;
     let mut i: usize = 0;
     while i < n as usize {
-        let o = word_at(ws, layout::MEMBERS + 6 * i + 4);
-        let p = word_at(ws, layout::MEMBERS + 6 * i + 5);
+        let o = word(ws, layout::MEMBERS + 6 * i + 4);
+        let p = word(ws, layout::MEMBERS + 6 * i + 5);
         let t = wire::get_u8(tree, o as usize, 0);
         let u = wire::get_u8(tree, p as usize, 0);
         e += MEMBER + t as usize + u as usize;
@@ -65,7 +65,7 @@ fn stores_len(ws: &[u32], n: u16) -> usize
     let mut e: usize = 0;
     let mut i: usize = 0;
     while i < n as usize {
-        let k = word_at(ws, layout::STORES + 4 * i + 3);
+        let k = word(ws, layout::STORES + 4 * i + 3);
         e += STORE + PAIR * ((k % 65536) as usize);
         i += 1;
     }
@@ -78,7 +78,7 @@ fn calls_len(ws: &[u32], base: u16, n: u16) -> usize
     let mut e: usize = 0;
     let mut i: usize = 0;
     while i < n as usize {
-        let k = word_at(ws, layout::CALLS + 4 * i + 2);
+        let k = word(ws, layout::CALLS + 4 * i + 2);
         e += CALL + WORD * ((k % 65536) as usize);
         i += 1;
     }

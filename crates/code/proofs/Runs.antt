@@ -32,10 +32,6 @@ pub move-end : (words : List ℕ) (from to n by : ℕ) → n ≡ 0 → relocated
 unfolding relocatedRange
 move-end words from to n by e = ap (λ (j : ℕ). relocatedRange words from to j by) e
 
--- two words one behind the other
-pub pair-written : (s : List ℕ) (at a b : ℕ) {t u : List ℕ} (k : ℕ) → t ≡ set s at a → u ≡ set t k b → k ≡ at + 1 → u ≡ sets s at (a ∷ b ∷ [])
-pair-written s at a b k e f g = f ∙ ap (λ (x : List ℕ). set x k b) e ∙ ap (λ (j : ℕ). set (set s at a) j b) (let h : k ≡ suc at = omega arith in h)
-
 -- a step of a loop, by what its calls promise
 pub aim-next : (ws : List ℕ) {next : List ℕ} (at check cleanup left k m : ℕ) {whole : List ℕ} → next ≡ aimedOne ws at check cleanup → 0 < left → k ≡ at + 1 → m + 1 ≡ left → aimedRange ws at left check cleanup ≡ whole → aimedRange next k m check cleanup ≡ whole
 aim-next ws at check cleanup left k m e h i j f = ap (λ (l : List ℕ). aimedRange l k m check cleanup) e ∙ aim-on ws at left k 0 m check cleanup h i j ∙ f

@@ -2,11 +2,12 @@
 use mathlib.Core.Path.{_≡_}
 use mathlib.Core.Bool.{Bool, true, cond}
 use mathlib.Core.List.{List, [], _∷_}
-use Prim.Native.Nat.{ℕ, zero, suc, _+_, _*_, _/_, _%_, _≤_, _<_}
+use Prim.Native.Nat.{ℕ, zero, suc, _+_, _*_, _/_, _≤_, _<_}
 use lib.Dec.{eqb, leb}
 use lib.ListN.{getD, set}
 use lib.Seq.{sets}
 use Rattle.workspace.specs.Layout.{FINISHED, CODE-ROOM}
+use Rattle.workspace.specs.Words.{plus}
 use Rattle.program.specs.Targets.{shiftOf}
 
 -- appended to the open code; a full region is left as it is
@@ -44,10 +45,6 @@ aimedRange words at (suc n) check cleanup = aimedRange (aimedOne words at check 
 -- that none of eight instructions from a place on waits, if so answered: their first words lack the top bit
 abbrev pub Idle : List ℕ → ℕ → ℕ → Bool → Type 0
 Idle words at n r = r ≡ true → (8 ≤ n) × ((k : ℕ) → k < 8 → getD words (at * 2 + 2 * k) 0 < 2147483648)
-
--- a target with a start added
-abbrev pub plus : ℕ → ℕ → ℕ
-plus a b = (a + b) % 4294967296
 
 -- one instruction copied, its target moved by `by` where it has one
 unfoldable pub relocatedOne : List ℕ → ℕ → ℕ → ℕ → List ℕ

@@ -1,13 +1,14 @@
 // Instructions of two words in the workspace: the open code and the finished argument code.
 // An instruction's words: opcode * 2^24 + sub * 2^16 + B, then A. A full region is left as it is.
 ghost use mathlib.Core.Path.{_≡_};
-ghost use mathlib.Core.List.{[], _∷_};
 ghost use Prim.Native.Nat.{_+_, _*_, _<_};
-ghost use lib.ListN.{length, getD, set};
-ghost use lib.Seq.{sets};
-ghost use Rattle.code.specs.Segments.{emitted, emittedTop, targeted, aimedOne, aimedRange, Idle, plus, relocatedOne, relocatedRange, moved, movedCount};
+ghost use Rattle.code.specs.Segments.{emitted, emittedTop, targeted, aimedOne, aimedRange, Idle, relocatedOne, relocatedRange, moved, movedCount};
 use program::targets;
 use workspace::layout;
+use workspace::words::plus;
+use workspace::words::put_pair;
+use workspace::words::put_word;
+use workspace::words::word;
 
 // The first words of a Break and a Continue that wait for their loop (no opcodes of the card), and of a Jump.
 pub const BREAK: u32 = 0xfa00_0000;
@@ -15,29 +16,6 @@ pub const BREAK: u32 = 0xfa00_0000;
 pub const CONTINUE: u32 = 0xfb00_0000;
 
 pub const JUMP: u32 = 0x2000_0000;
-
-// A word of the workspace; past its end 0.
-fn word(ws: &[u32], at: usize) -> u32
-    ensures { λ r. ⌜ r ≡ getD (now (ws .entry)) at 0 ⌝ }
-{
-    if at < ws.len() { ws[at] } else { 0 }
-}
-
-fn put_word(ws: &mut [u32], at: usize, w: u32)
-    ensures { λ _. ⌜ now (ws .exit) ≡ set (now (ws .entry)) at w ⌝ }
-{
-    if at < ws.len() {
-        ws[at] = w;
-    }
-}
-
-fn put_pair(ws: &mut [u32], at: usize, a: u32, b: u32)
-    requires { ⌜ at + 1 < 18446744073709551616 ⌝ }
-    ensures { λ _. ⌜ now (ws .exit) ≡ sets (now (ws .entry)) at (a ∷ b ∷ []) ⌝ }
-{
-    put_word(ws, at, a);
-    put_word(ws, at + 1, b);
-}
 
 fn wide(x: u16) -> usize
     ensures { λ r. ⌜ r ≡ x ⌝ ∗ ⌜ r < 65536 ⌝ }
@@ -114,13 +92,6 @@ pub fn aim(ws: &mut [u32], from: u16, count: u16, check: u32, cleanup: u32)
         at += 1;
         left -= 1;
     }
-}
-
-// A target with a start added.
-fn plus(a: u32, b: u32) -> u32
-    ensures { λ r. ⌜ r ≡ plus a b ⌝ }
-{
-    ((a as u64 + b as u64) % 4294967296) as u32
 }
 
 // Copies an instruction, `by` added to its target where it has one.

@@ -1,11 +1,12 @@
 -- The depth counters: what each call makes of them. Definitions only.
-use Prim.Native.Nat.{ℕ, _+_, _-_, max, min}
+use Prim.Native.Nat.{ℕ, _-_, max}
+use Rattle.workspace.specs.Counts.{sum}
 use Rattle.program.specs.declared.Depths.{Depths}
 use Rattle.depth.specs.declared.Depth.{Depth}
 
 -- one more, up to what 16 bits hold; k fewer, down to none
 abbrev pub raised : ℕ → ℕ
-raised n = min (n + 1) 65535
+raised n = sum n 1
 
 abbrev pub lowered : ℕ → ℕ → ℕ
 lowered n k = n - k

@@ -3,9 +3,10 @@
 // Each change is a function by value, the core. The methods are lent the counters and put what their core makes in their
 // place. For callers that hold the counters by value there is a function over each method, which lends it a local.
 use program::Depths;
+use workspace::counts::one_more;
 ghost use mathlib.Core.Path.{_≡_};
 ghost use Prim.Native.Nat.{max};
-ghost use Rattle.depth.specs.Counters.{raised, lowered, pushed, popped, loopEntered, loopLeft, handlerEntered, handlerLeft};
+ghost use Rattle.depth.specs.Counters.{lowered, pushed, popped, loopEntered, loopLeft, handlerEntered, handlerLeft};
 
 pub struct Depth {
     pub now: Depths,
@@ -16,15 +17,6 @@ fn larger(a: u16, b: u16) -> u16
     ensures { λ r. ⌜ r ≡ max a b ⌝ }
 {
     if a < b { b } else { a }
-}
-
-fn one_more(n: u16) -> u16
-    ensures { λ r. ⌜ r ≡ raised n ⌝ }
-{
-    if n < 65535 {
-        return n + 1;
-    }
-    65535
 }
 
 fn fewer(n: u16, k: u16) -> u16

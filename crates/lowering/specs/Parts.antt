@@ -1,13 +1,15 @@
 -- The parts that rules are made of, as steps on the builder's state and the workspace's words. Definitions only.
 use mathlib.Core.Bool.{Bool, true, false, cond}
 use mathlib.Core.List.{List, [], _∷_}
-use Prim.Native.Nat.{ℕ, _+_, _*_, _-_, _%_, min}
+use Prim.Native.Nat.{ℕ, _+_, _*_, _-_, _%_}
 use lib.Dec.{ltb}
 use lib.ListN.{set}
 use Rattle.numeric.specs.Post.{Post, isIdentity}
 use Rattle.ast.specs.Node.{scaleAt, offsetAt}
 use Rattle.program.specs.Opcodes as O
 use Rattle.workspace.specs.Layout.{STORES, STORES-ROOM, PATHS, PATHS-ROOM, CALLS, CALLS-ROOM, ARGUMENTS, ARGUMENTS-ROOM}
+use Rattle.workspace.specs.Words.{high, low}
+use Rattle.workspace.specs.Counts.{sum}
 use Rattle.lowering.specs.Regions.{appendedCount, appendedWords}
 use Rattle.payload.specs.declared.NameRef.{NameRef}
 use Rattle.builder.specs.declared.State.{State}
@@ -16,7 +18,7 @@ use Rattle.lowering.specs.declared.control.EachIndex.{EachIndex}
 use Rattle.lowering.specs.declared.control.EachIndex.the-variants.{Name, Temp, Refused}
 use Rattle.builder.specs.Steps.{Held, emitted, flushed, put}
 use Rattle.lowering.specs.Pools as B
-use Rattle.lowering.specs.Pools.{Found, after, high, low}
+use Rattle.lowering.specs.Pools.{Found, after}
 use Rattle.builder.specs.Segments.{targeted, aimed, closed}
 use Rattle.lowering.specs.Steps.{set-stores, set-paths, set-calls, set-arguments}
 
@@ -144,7 +146,7 @@ unfoldable pub callBegun : ℕ → ℕ → ℕ → Held → Found
 callBegun index impl count h =
     let k = h .0 .calls in
     let first = h .0 .arguments in (
-      record { state = set-arguments (min (first + count) 65535) (set-calls (appendedCount k CALLS-ROOM) (h .0)); index = k },
+      record { state = set-arguments (sum first count) (set-calls (appendedCount k CALLS-ROOM) (h .0)); index = k },
       appendedWords k CALLS-ROOM (h .1) (CALLS + 4 * k) (index ∷ impl ∷ count ∷ first ∷ []),
     )
 

@@ -1,9 +1,11 @@
 -- What interning makes of the builder's state and the workspace's words, and the entry's index. Definitions only.
 use mathlib.Core.Bool.{Bool, cond}
 use mathlib.Core.List.{List, [], _∷_}
-use Prim.Native.Nat.{ℕ, _+_, _-_, _*_, _/_, _%_, min}
+use Prim.Native.Nat.{ℕ, _+_, _-_, _*_, _%_}
 use lib.Bits.{bitOr}
 use Rattle.workspace.specs.Layout.{CONSTS, CONSTS-ROOM, POSTS, POSTS-ROOM, HASHES, HASHES-ROOM, NAMES, NAMES-ROOM, TEMPS, TEMPS-ROOM, MEMBERS, MEMBERS-ROOM}
+use Rattle.workspace.specs.Words.{high, low}
+use Rattle.workspace.specs.Counts.{sum}
 use Rattle.numeric.specs.Post.{Post, isIdentity}
 use Rattle.program.specs.Kinds.{USES-TEMPS}
 use Rattle.lowering.specs.Search.{wordHit, pairHit, nameHit, memberHit}
@@ -31,13 +33,6 @@ konst bits h =
     let n = h .0 .consts in
     let k = internedIndex (wordHit (h .1) CONSTS bits) n in
     found (λ c. set-consts c (h .0)) k n CONSTS-ROOM (h .1) (CONSTS + n) (bits ∷ [])
-
--- a hash is two words, the high one first
-abbrev pub high : ℕ → ℕ
-high v = v / 4294967296
-
-abbrev pub low : ℕ → ℕ
-low v = v % 4294967296
 
 unfoldable pub hash : ℕ → Held → Found
 hash v h =
@@ -79,7 +74,7 @@ temp v h =
 
 -- "posts by both bit patterns"; the identity is slot 0 and is not looked up, the pool's come behind it
 abbrev pub after : ℕ → ℕ
-after index = min (index + 1) 65535
+after index = sum index 1
 
 unfoldable pub post : Post → Held → Found
 post v h =

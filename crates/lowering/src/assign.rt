@@ -19,11 +19,12 @@ use program::PostIdx;
 use program::StoreIdx;
 use program::TempIdx;
 use program::opcodes;
+use workspace::counts::one_more;
 use workspace::layout;
 ghost use mathlib.Core.Path.{_≡_};
 ghost use mathlib.Core.List.{List};
 ghost use Rattle.builder.specs.Steps.{Held};
-ghost use Rattle.lowering.specs.Pools.{Found, after};
+ghost use Rattle.lowering.specs.Pools.{Found};
 ghost use Rattle.lowering.specs.Kinds.{ofStore, rootKind, rootIndex};
 ghost use Rattle.lowering.specs.Parts.{pathAdded, storeAdded};
 ghost use Rattle.lowering.specs.Rules as R;
@@ -46,15 +47,6 @@ pub(crate) fn rule_at(tree: &[u8], at: usize) -> u8
     ensures { λ r. ⌜ r ≡ R.rule (now (tree .entry)) at ⌝ }
 {
     ast::rule(tree::op_at(tree, at))
-}
-
-pub(crate) fn one_more(n: u16) -> u16
-    ensures { λ r. ⌜ r ≡ after n ⌝ }
-{
-    if n < 65535 {
-        return n + 1;
-    }
-    65535
 }
 
 fn no_path() -> PathEnd

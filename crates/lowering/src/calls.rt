@@ -7,10 +7,11 @@ use builder::State;
 use builder::segments;
 use program::CallIdx;
 use program::opcodes;
+use workspace::counts::sum;
 use workspace::layout;
 ghost use mathlib.Core.Path.{_≡_};
 ghost use mathlib.Core.List.{List};
-ghost use Prim.Native.Nat.{_+_, min};
+ghost use Prim.Native.Nat.{_+_};
 ghost use lib.Dec.{ltb};
 ghost use lib.ListN.{set};
 ghost use mathlib.Core.Bool.{cond};
@@ -19,15 +20,6 @@ ghost use Rattle.builder.specs.Steps.{Held};
 ghost use Rattle.lowering.specs.Pools.{Found};
 ghost use Rattle.lowering.specs.Kinds.{ofCall};
 ghost use Rattle.lowering.specs.Parts.{callBegun, argumentClosed};
-
-fn sum(a: u16, b: u16) -> u16
-    ensures { λ r. ⌜ r ≡ min (a + b) 65535 ⌝ }
-{
-    if b <= 65535 - a {
-        return a + b;
-    }
-    65535
-}
 
 // A call takes its number, and places for its arguments' starts.
 pub(crate) fn begin_call(

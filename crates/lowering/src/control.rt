@@ -1,5 +1,4 @@
 // Control: breaks, the ends of loops, a ForEach variable.
-use crate::assign::one_more;
 use crate::interning;
 use crate::interning::Entry;
 use crate::parts::guard;
@@ -12,6 +11,7 @@ use payload::Payload;
 use program::NameIdx;
 use program::TempIdx;
 use program::opcodes;
+use workspace::counts::one_more;
 ghost use mathlib.Core.Path.{_≡_};
 ghost use mathlib.Core.List.{List};
 ghost use Prim.Native.Nat.{ℕ};

@@ -13,12 +13,14 @@ use program::NameIdx;
 use program::PostIdx;
 use program::StoreIdx;
 use program::TempIdx;
+use workspace::counts::one_more;
 use workspace::layout;
+use workspace::words::high;
+use workspace::words::low;
 ghost use mathlib.Core.Path.{_≡_};
 ghost use mathlib.Core.List.{List};
-ghost use Prim.Native.Nat.{_/_, _%_};
 ghost use Rattle.numeric.specs.PostOp.{patterns, postOf};
-ghost use Rattle.lowering.specs.Pools.{Found, konst, post, hash, name, slot, temp, member, textPlace, after, constant};
+ghost use Rattle.lowering.specs.Pools.{Found, konst, post, hash, name, slot, temp, member, textPlace, constant};
 ghost use Rattle.lowering.specs.Kinds.{ofConst, ofHash, ofName, ofTemp, ofMember, ofPost};
 ghost use Rattle.builder.specs.Steps.{Held};
 
@@ -79,18 +81,6 @@ pub(crate) fn konst(ws: &mut [u32], st: State, bits: u32) -> ConstEntry
         state: s,
         index: ConstIdx(wide(i.index)),
     }
-}
-
-fn high(h: u64) -> u32
-    ensures { λ r. ⌜ r ≡ h / 4294967296 ⌝ }
-{
-    (h / 4294967296) as u32
-}
-
-fn low(h: u64) -> u32
-    ensures { λ r. ⌜ r ≡ h % 4294967296 ⌝ }
-{
-    (h % 4294967296) as u32
 }
 
 pub(crate) fn hash(ws: &mut [u32], st: State, h: u64) -> HashEntry
@@ -195,16 +185,6 @@ fn slot(ws: &mut [u32], st: State, named: NameIdx) -> TempEntry
     }
 }
 
-// A slot of the pool comes behind slot 0.
-fn behind_plain(index: u16) -> u16
-    ensures { λ r. ⌜ r ≡ after index ⌝ }
-{
-    if index < 65535 {
-        return index + 1;
-    }
-    65535
-}
-
 // A post, looked up by its bit patterns, which go beside it since no float keeps a NaN's; the identity is slot 0 and is not looked up.
 pub(crate) fn post_of(ws: &mut [u32], st: State, p: PostOp, bits: PostBits) -> PostEntry
     requires { ⌜ p ≡ postOf (patterns bits) ⌝ }
@@ -228,7 +208,7 @@ pub(crate) fn post_of(ws: &mut [u32], st: State, p: PostOp, bits: PostBits) -> P
     s.posts = i.count;
     PostEntry {
         state: s,
-        index: PostIdx(behind_plain(i.index)),
+        index: PostIdx(one_more(i.index)),
     }
 }
 

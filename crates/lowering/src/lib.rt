@@ -34,6 +34,7 @@ use program::subs;
 use steps::flag;
 use steps::not_float_only;
 use steps::pop;
+use workspace::counts::one_more;
 ghost use mathlib.Core.Path.{_≡_};
 ghost use mathlib.Core.List.{List};
 ghost use mathlib.Core.Bool.{false};
@@ -674,7 +675,7 @@ fn passed(
         let u = expr(tree, argument, ws, t, false, levels);
         s = calls::end_argument(ws, u, base, waiting, slot);
         argument = tree::next_at(tree, argument);
-        slot = assign::one_more(slot);
+        slot = one_more(slot);
         left -= 1;
     }
     s

@@ -1,8 +1,10 @@
 // Entries in regions of a workspace of words: found by key, appended, interned. Past the end a word reads 0, and nothing is written.
+use workspace::words::put_pair;
+use workspace::words::put_word;
+use workspace::words::word;
 ghost use mathlib.Core.Path.{_≡_};
 ghost use mathlib.Core.List.{[], _∷_};
 ghost use Prim.Native.Nat.{_+_, _*_, _^_, _<_, _≤_};
-ghost use lib.ListN.{getD};
 ghost use lib.Seq.{sets};
 ghost use Rattle.lowering.specs.Search.{seek, pairAt, wordHit, pairHit, nameHit, memberHit, Without, NoneIs};
 ghost use Rattle.lowering.specs.Regions.{Appends, Interns};
@@ -11,15 +13,6 @@ ghost use Rattle.lowering.specs.Regions.{Appends, Interns};
 pub struct Interned {
     pub index: u16,
     pub count: u16,
-}
-
-fn word(ws: &[u32], at: usize) -> u32
-    ensures { λ r. ⌜ r ≡ getD (now (ws .entry)) at 0 ⌝ }
-{
-    if at < ws.len() {
-        return ws[at];
-    }
-    0
 }
 
 fn pair_at(ws: &[u32], at: usize, a: u32, b: u32) -> bool
@@ -153,36 +146,20 @@ fn find_member(ws: &[u32], from: u16, n: u16, a: u32, b: u32, c: u32, d: u32) ->
     i
 }
 
-fn put_one(ws: &mut [u32], at: usize, a: u32)
-    ensures { λ _. ⌜ now (ws .exit) ≡ sets (now (ws .entry)) at (a ∷ []) ⌝ }
-{
-    if at < ws.len() {
-        ws[at] = a;
-    }
-}
-
-fn put_two(ws: &mut [u32], at: usize, a: u32, b: u32)
-    requires { ⌜ at < 2 ^ 22 ⌝ }
-    ensures { λ _. ⌜ now (ws .exit) ≡ sets (now (ws .entry)) at (a ∷ b ∷ []) ⌝ }
-{
-    put_one(ws, at, a);
-    put_one(ws, at + 1, b);
-}
-
 fn put_three(ws: &mut [u32], at: usize, a: u32, b: u32, c: u32)
     requires { ⌜ at < 2 ^ 21 ⌝ }
     ensures { λ _. ⌜ now (ws .exit) ≡ sets (now (ws .entry)) at (a ∷ b ∷ c ∷ []) ⌝ }
 {
-    put_two(ws, at, a, b);
-    put_one(ws, at + 2, c);
+    put_pair(ws, at, a, b);
+    put_word(ws, at + 2, c);
 }
 
 fn put_four(ws: &mut [u32], at: usize, a: u32, b: u32, c: u32, d: u32)
     requires { ⌜ at < 2 ^ 21 ⌝ }
     ensures { λ _. ⌜ now (ws .exit) ≡ sets (now (ws .entry)) at (a ∷ b ∷ c ∷ d ∷ []) ⌝ }
 {
-    put_two(ws, at, a, b);
-    put_two(ws, at + 2, c, d);
+    put_pair(ws, at, a, b);
+    put_pair(ws, at + 2, c, d);
 }
 
 fn put_six(ws: &mut [u32], at: usize, a: u32, b: u32, c: u32, d: u32, e: u32, f: u32)
@@ -190,7 +167,7 @@ fn put_six(ws: &mut [u32], at: usize, a: u32, b: u32, c: u32, d: u32, e: u32, f:
     ensures { λ _. ⌜ now (ws .exit) ≡ sets (now (ws .entry)) at (a ∷ b ∷ c ∷ d ∷ e ∷ f ∷ []) ⌝ }
 {
     put_four(ws, at, a, b, c, d);
-    put_two(ws, at + 4, e, f);
+    put_pair(ws, at + 4, e, f);
 }
 
 // An entry of one word after the `n` there are, if there is room: how many there are now.
@@ -200,7 +177,7 @@ fn append_word(ws: &mut [u32], from: u16, room: u16, n: u16, a: u32) -> u16
     if n >= room {
         return n;
     }
-    put_one(ws, (from as usize) + (n as usize), a);
+    put_word(ws, (from as usize) + (n as usize), a);
     n + 1
 }
 
@@ -211,7 +188,7 @@ pub(crate) fn append_pair(ws: &mut [u32], from: u16, room: u16, n: u16, a: u32, 
     if n >= room {
         return n;
     }
-    put_two(ws, (from as usize) + 2 * (n as usize), a, b);
+    put_pair(ws, (from as usize) + 2 * (n as usize), a, b);
     n + 1
 }
 

@@ -16,9 +16,9 @@ use payload::Payload;
 use program::Flags;
 use program::PostIdx;
 use program::opcodes;
+use workspace::words::low;
 ghost use mathlib.Core.Path.{_≡_};
 ghost use mathlib.Core.List.{List};
-ghost use Prim.Native.Nat.{_%_};
 ghost use Rattle.numeric.specs.Post.{fold};
 ghost use Rattle.ast.specs.Node.{offsetAt};
 ghost use Rattle.payload.specs.Payloads.{payloadRefAt};
@@ -39,12 +39,6 @@ pub(crate) fn float_bits(p: Payload) -> u32
     b
 }
 
-fn low_bits(h: u64) -> u32
-    ensures { λ r. ⌜ r ≡ h % 4294967296 ⌝ }
-{
-    (h % 4294967296) as u32
-}
-
 // A float, or the low 32 bits of a hash.
 pub(crate) fn constant_bits(p: Payload) -> u32
     ensures { λ r. ⌜ r ≡ constOf p ⌝ }
@@ -52,7 +46,7 @@ pub(crate) fn constant_bits(p: Payload) -> u32
     let Payload::Hash(h) = p else {
         return float_bits(p);
     };
-    low_bits(h)
+    low(h)
 }
 
 fn string_hash(p: Payload) -> u64

@@ -17,7 +17,8 @@ use Rattle.card.specs.Holds.{PostIs, HashIs, TextIs, NameIs}
 use Rattle.lowering.specs.Search.{wordHit, pairHit, nameHit, memberHit}
 use Rattle.lowering.proofs.Slots.{same}
 use Rattle.lowering.proofs.Hits.{word-hit, pair-hit, name-hit, member-hit}
-use Rattle.lowering.specs.Pools.{high, low, textPlace}
+use Rattle.workspace.specs.Words.{high, low}
+use Rattle.lowering.specs.Pools.{textPlace}
 use Rattle.representation.proofs.Represents.{WordAt, MemberAt}
 
 -- ---- what a hit decides

@@ -25,7 +25,8 @@ use Rattle.builder.specs.declared.State as S
 use Rattle.builder.specs.Fields as F
 use Rattle.builder.specs.Steps.{Held}
 use Rattle.lowering.specs.Pools as B
-use Rattle.lowering.specs.Pools.{Found, found, high, low, textPlace, after}
+use Rattle.workspace.specs.Words.{high, low}
+use Rattle.lowering.specs.Pools.{Found, found, textPlace, after}
 use Rattle.lowering.specs.Parts as L
 use Rattle.lowering.specs.Parts.{Step, going}
 use Rattle.representation.proofs.Rows.{Local, Apart}

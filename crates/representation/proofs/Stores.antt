@@ -36,7 +36,8 @@ use Rattle.card.specs.Holds.{HashIs, HashesAre, rootKind}
 use Rattle.lowering.specs.Regions.{appendedCount, appendedWords}
 use Rattle.builder.specs.Steps as W
 use Rattle.builder.specs.Steps.{Held}
-use Rattle.lowering.specs.Pools.{Found, high, low}
+use Rattle.workspace.specs.Words.{high, low}
+use Rattle.lowering.specs.Pools.{Found}
 use Rattle.lowering.specs.declared.assign.PathEnd.{PathEnd}
 use Rattle.lowering.specs.Steps as L
 use Rattle.lowering.specs.Payloads as Q

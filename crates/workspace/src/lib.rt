@@ -1,2 +1,4 @@
-// The lent workspace: where its regions stand, and words read and written in it. Assumes nothing.
+// The lent workspace: where its regions stand, its words, and the counts that are kept beside it. Assumes nothing.
+pub mod counts;
 pub mod layout;
+pub mod words;

@@ -4,26 +4,26 @@ use Rattle.card.proofs.Join.{being}
 use Rattle.card.proofs.entries.put_call.Statement.{statement}
 use Rattle.card.proofs.entries.put_call.Tie as tie
 
-word-at-requires : tie.Need-word-at-requires
-word-at-requires c κs = search needs
+word-requires : tie.Need-word-requires
+word-requires c κs = search needs
 
-add-word-at : tie.Need-add-word-at
-add-word-at c = search needs
+add-word : tie.Need-add-word
+add-word c = search needs
 
-word-at-requires-2 : tie.Need-word-at-requires-2
-word-at-requires-2 c κs = search needs
+word-requires-2 : tie.Need-word-requires-2
+word-requires-2 c κs = search needs
 
-add-word-at-2 : tie.Need-add-word-at-2
-add-word-at-2 c = search needs
+add-word-2 : tie.Need-add-word-2
+add-word-2 c = search needs
 
-word-at-requires-3 : tie.Need-word-at-requires-3
-word-at-requires-3 c κs = search needs
+word-requires-3 : tie.Need-word-requires-3
+word-requires-3 c κs = search needs
 
-add-word-at-3 : tie.Need-add-word-at-3
-add-word-at-3 c = search needs
+add-word-3 : tie.Need-add-word-3
+add-word-3 c = search needs
 
-word-at-requires-4 : tie.Need-word-at-requires-4
-word-at-requires-4 c κs = search needs
+word-requires-4 : tie.Need-word-requires-4
+word-requires-4 c κs = search needs
 
 put-call-of-requires : tie.Need-put-call-of-requires
 put-call-of-requires c κs = search needs
@@ -32,7 +32,7 @@ same-length : tie.Need-same-length
 same-length c = search needs
 
 returns : tie.Need-returns
-returns c = (being (c .before .before .put-call-of .ensures .0) (rw (c .before .before .before .before .before .before .before .word-at .ensures, c .before .before .before .before .before .before .word-at2 .ensures, c .before .before .before .before .before .word-at3 .ensures, c .before .before .before .before .word-at4 .ensures)), omega arith)
+returns c = (being (c .before .before .put-call-of .ensures .0) (rw (c .before .before .before .before .before .before .before .word .ensures, c .before .before .before .before .before .before .word2 .ensures, c .before .before .before .before .before .word3 .ensures, c .before .before .before .before .word4 .ensures)), omega arith)
 
 pub put-call-spec : {M : Type 1} → statement M
-put-call-spec = tie.close (tie.spec word-at-requires add-word-at word-at-requires-2 add-word-at-2 word-at-requires-3 add-word-at-3 word-at-requires-4 put-call-of-requires same-length returns)
+put-call-spec = tie.close (tie.spec word-requires add-word word-requires-2 add-word-2 word-requires-3 add-word-3 word-requires-4 put-call-of-requires same-length returns)

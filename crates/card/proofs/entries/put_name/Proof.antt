@@ -5,11 +5,11 @@ use Rattle.card.proofs.Join.{join, being}
 use Rattle.card.proofs.entries.put_name.Statement.{statement}
 use Rattle.card.proofs.entries.put_name.Tie as tie
 
-add-word-at : tie.Need-add-word-at
-add-word-at c = search needs
+add-word : tie.Need-add-word
+add-word c = search needs
 
-word-at-requires : tie.Need-word-at-requires
-word-at-requires c κs = search needs
+word-requires : tie.Need-word-requires
+word-requires c κs = search needs
 
 put-hash-requires : tie.Need-put-hash-requires
 put-hash-requires c κs = search needs
@@ -22,7 +22,7 @@ same-length c = search needs
 
 returns : tie.Need-returns
 unfolding nameBytes
-returns c = (being (join (c .before .before .before .before .before .before .put-hash .ensures .0) (c .before .before .put-text .ensures .0)) (rw (c .before .before .before .before .before .before .before .before .word-at .ensures)), omega arith)
+returns c = (being (join (c .before .before .before .before .before .before .put-hash .ensures .0) (c .before .before .put-text .ensures .0)) (rw (c .before .before .before .before .before .before .before .before .word .ensures)), omega arith)
 
 pub put-name-spec : {M : Type 1} → statement M
-put-name-spec = tie.close (tie.spec add-word-at word-at-requires put-hash-requires put-text-requires same-length returns)
+put-name-spec = tie.close (tie.spec add-word word-requires put-hash-requires put-text-requires same-length returns)

@@ -16,11 +16,11 @@ abbrev μ-loop : tie.MeasureT-loop
 loop-holds : tie.Need-loop-holds Inv-loop μ-loop
 loop-holds c = (omega arith, begun _, omega arith)
 
-add-word-at : tie.Need-add-word-at Inv-loop μ-loop
-add-word-at c = search needs
+add-word : tie.Need-add-word Inv-loop μ-loop
+add-word c = search needs
 
-word-at-requires : tie.Need-word-at-requires Inv-loop μ-loop
-word-at-requires c κs = search needs
+word-requires : tie.Need-word-requires Inv-loop μ-loop
+word-requires c κs = search needs
 
 cast-put-half : tie.Need-cast-put-half Inv-loop μ-loop
 cast-put-half c = search needs
@@ -35,7 +35,7 @@ loop-less : tie.Need-loop-less Inv-loop μ-loop
 loop-less c = omega arith
 
 loop-again : tie.Need-loop-again Inv-loop μ-loop
-loop-again c = (omega arith, more _ (c .before .before .before .before .before .before .loop .inv .1) (being (c .before .before .put-half .ensures .0) (rw (c .before .before .before .before .word-at .ensures))), omega arith)
+loop-again c = (omega arith, more _ (c .before .before .before .before .before .before .loop .inv .1) (being (c .before .before .put-half .ensures .0) (rw (c .before .before .before .before .word .ensures))), omega arith)
 
 same-length : tie.Need-same-length Inv-loop μ-loop
 same-length c = kept (c .before .loop .inv .1)
@@ -44,4 +44,4 @@ returns : tie.Need-returns Inv-loop μ-loop
 returns c = (done _ (c .before .loop .inv .1) (omega arith) (omega arith), omega arith)
 
 pub put-halves-spec : {M : Type 1} → statement M
-put-halves-spec = tie.close (tie.spec Inv-loop μ-loop loop-holds add-word-at word-at-requires cast-put-half put-half-requires add-i loop-less loop-again same-length returns)
+put-halves-spec = tie.close (tie.spec Inv-loop μ-loop loop-holds add-word word-requires cast-put-half put-half-requires add-i loop-less loop-again same-length returns)

@@ -16,11 +16,11 @@ abbrev μ-loop : tie.MeasureT-loop
 loop-holds : tie.Need-loop-holds Inv-loop μ-loop
 loop-holds c = (omega arith, begun _, omega arith)
 
-add-word-at : tie.Need-add-word-at Inv-loop μ-loop
-add-word-at c = search needs
+add-word : tie.Need-add-word Inv-loop μ-loop
+add-word c = search needs
 
-word-at-requires : tie.Need-word-at-requires Inv-loop μ-loop
-word-at-requires c κs = search needs
+word-requires : tie.Need-word-requires Inv-loop μ-loop
+word-requires c κs = search needs
 
 plus-requires : tie.Need-plus-requires Inv-loop μ-loop
 plus-requires c κs = search needs
@@ -35,7 +35,7 @@ loop-less : tie.Need-loop-less Inv-loop μ-loop
 loop-less c = omega arith
 
 loop-again : tie.Need-loop-again Inv-loop μ-loop
-loop-again c = (omega arith, more _ (c .before .before .before .before .before .before .before .loop .inv .1) (being (c .before .before .put-word .ensures .0) (rw (c .before .before .before .before .plus .ensures, c .before .before .before .before .before .word-at .ensures))), omega arith)
+loop-again c = (omega arith, more _ (c .before .before .before .before .before .before .before .loop .inv .1) (being (c .before .before .put-word .ensures .0) (rw (c .before .before .before .before .plus .ensures, c .before .before .before .before .before .word .ensures))), omega arith)
 
 same-length : tie.Need-same-length Inv-loop μ-loop
 same-length c = kept (c .before .loop .inv .1)
@@ -44,4 +44,4 @@ returns : tie.Need-returns Inv-loop μ-loop
 returns c = (done _ (c .before .loop .inv .1) (omega arith) (omega arith), omega arith)
 
 pub put-words-spec : {M : Type 1} → statement M
-put-words-spec = tie.close (tie.spec Inv-loop μ-loop loop-holds add-word-at word-at-requires plus-requires put-word-requires add-i loop-less loop-again same-length returns)
+put-words-spec = tie.close (tie.spec Inv-loop μ-loop loop-holds add-word word-requires plus-requires put-word-requires add-i loop-less loop-again same-length returns)

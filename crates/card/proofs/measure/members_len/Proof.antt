@@ -15,29 +15,29 @@ abbrev μ-loop : tie.MeasureT-loop
 loop-holds : tie.Need-loop-holds Inv-loop μ-loop
 loop-holds c = (omega arith, begun _, omega arith)
 
-mul-word-at : tie.Need-mul-word-at Inv-loop μ-loop
-mul-word-at c = search needs
+mul-word : tie.Need-mul-word Inv-loop μ-loop
+mul-word c = search needs
 
-add-word-at : tie.Need-add-word-at Inv-loop μ-loop
-add-word-at c = search needs
+add-word : tie.Need-add-word Inv-loop μ-loop
+add-word c = search needs
 
-add-word-at-2 : tie.Need-add-word-at-2 Inv-loop μ-loop
-add-word-at-2 c = search needs
+add-word-2 : tie.Need-add-word-2 Inv-loop μ-loop
+add-word-2 c = search needs
 
-word-at-requires : tie.Need-word-at-requires Inv-loop μ-loop
-word-at-requires c κs = search needs
+word-requires : tie.Need-word-requires Inv-loop μ-loop
+word-requires c κs = search needs
 
-mul-word-at-2 : tie.Need-mul-word-at-2 Inv-loop μ-loop
-mul-word-at-2 c = search needs
+mul-word-2 : tie.Need-mul-word-2 Inv-loop μ-loop
+mul-word-2 c = search needs
 
-add-word-at-3 : tie.Need-add-word-at-3 Inv-loop μ-loop
-add-word-at-3 c = search needs
+add-word-3 : tie.Need-add-word-3 Inv-loop μ-loop
+add-word-3 c = search needs
 
-add-word-at-4 : tie.Need-add-word-at-4 Inv-loop μ-loop
-add-word-at-4 c = search needs
+add-word-4 : tie.Need-add-word-4 Inv-loop μ-loop
+add-word-4 c = search needs
 
-word-at-requires-2 : tie.Need-word-at-requires-2 Inv-loop μ-loop
-word-at-requires-2 c κs = search needs
+word-requires-2 : tie.Need-word-requires-2 Inv-loop μ-loop
+word-requires-2 c κs = search needs
 
 cast-get-u8 : tie.Need-cast-get-u8 Inv-loop μ-loop
 cast-get-u8 c = search needs
@@ -73,10 +73,10 @@ loop-less : tie.Need-loop-less Inv-loop μ-loop
 loop-less c = omega arith
 
 loop-again : tie.Need-loop-again Inv-loop μ-loop
-loop-again c = (omega arith, more _ (c .before .before .before .before .before .loop .inv .1) (member _ _ _ (c .before .before .before .word-at .ensures) (c .before .before .word-at2 .ensures) (c .before .get-u8 .ensures) (c .get-u82 .ensures)), omega arith)
+loop-again c = (omega arith, more _ (c .before .before .before .before .before .loop .inv .1) (member _ _ _ (c .before .before .before .word .ensures) (c .before .before .word2 .ensures) (c .before .get-u8 .ensures) (c .get-u82 .ensures)), omega arith)
 
 returns : tie.Need-returns Inv-loop μ-loop
 returns c = (done _ (c .before .loop .inv .1) (omega arith) (omega arith), omega arith)
 
 pub members-len-spec : {M : Type 1} → statement M
-members-len-spec = tie.close (tie.spec Inv-loop μ-loop loop-holds mul-word-at add-word-at add-word-at-2 word-at-requires mul-word-at-2 add-word-at-3 add-word-at-4 word-at-requires-2 cast-get-u8 get-u8-requires cast-get-u8-2 get-u8-requires-2 cast-e add-e cast-e-2 add-e-2 add-e-3 add-i loop-less loop-again returns)
+members-len-spec = tie.close (tie.spec Inv-loop μ-loop loop-holds mul-word add-word add-word-2 word-requires mul-word-2 add-word-3 add-word-4 word-requires-2 cast-get-u8 get-u8-requires cast-get-u8-2 get-u8-requires-2 cast-e add-e cast-e-2 add-e-2 add-e-3 add-i loop-less loop-again returns)

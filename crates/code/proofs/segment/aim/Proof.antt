@@ -6,7 +6,7 @@ use Prim.Native.Nat.{ℕ, _+_, _*_, _≤_, _<_}
 use lib.ListN.{length, getD, set}
 use borrow.Author.Tests.{le-leb, lt-leb, eq-eqb, ne-eqb}
 use Rattle.code.specs.Segments.{emitted, emittedTop, targeted, aimedOne, aimedRange, relocatedOne, relocatedRange, moved, movedCount, BREAK, CONTINUE}
-use Rattle.code.proofs.Runs.{pair-written, aim-on, aim-end, move-on, move-end, aim-next, move-next}
+use Rattle.code.proofs.Runs.{aim-on, aim-end, move-on, move-end, aim-next, move-next}
 use Rattle.code.proofs.Idle.{idle-next}
 use Rattle.code.proofs.segment.aim.Statement.{statement}
 use Rattle.code.proofs.segment.aim.Tie as tie

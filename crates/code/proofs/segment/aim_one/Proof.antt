@@ -6,13 +6,11 @@ use Prim.Native.Nat.{ℕ, _+_, _*_, _≤_, _<_}
 use lib.ListN.{length, getD, set}
 use borrow.Author.Tests.{le-leb, lt-leb, eq-eqb, ne-eqb}
 use Rattle.code.specs.Segments.{emitted, emittedTop, targeted, aimedOne, aimedRange, relocatedOne, relocatedRange, moved, movedCount, BREAK, CONTINUE}
-use Rattle.code.proofs.Runs.{pair-written, aim-on, aim-end, move-on, move-end, aim-next, move-next}
+use Rattle.code.proofs.Runs.{aim-on, aim-end, move-on, move-end, aim-next, move-next}
 use Rattle.code.proofs.segment.aim_one.Statement.{statement}
 use Rattle.code.proofs.segment.aim_one.Tie as tie
 use Rattle.code.proofs.segment.aim_one.Reads as reads
 use Rattle.code.proofs.segment.aim_one.Lts as lts
-use Rattle.code.proofs.segment.put_pair.Reads as put-pair-reads
-use Rattle.code.proofs.segment.word.Reads as word-reads
 
 -- src/segment.rt:64:13
 mul-i : tie.Need-mul-i

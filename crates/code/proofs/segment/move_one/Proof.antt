@@ -5,9 +5,6 @@ use Rattle.code.proofs.segment.move_one.Statement.{statement}
 use Rattle.code.proofs.segment.move_one.Tie as tie
 use Rattle.code.proofs.segment.move_one.Reads as reads
 use Rattle.code.proofs.segment.move_one.Lts as lts
-use Rattle.code.proofs.segment.plus.Reads as plus-reads
-use Rattle.code.proofs.segment.put_pair.Reads as put-pair-reads
-use Rattle.code.proofs.segment.word.Reads as word-reads
 use Rattle.program.proofs.targets.shift.Reads as shift-reads
 
 -- src/segment.rt:113:9

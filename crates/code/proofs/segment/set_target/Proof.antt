@@ -6,12 +6,11 @@ use Prim.Native.Nat.{ℕ, _+_, _*_, _≤_, _<_}
 use lib.ListN.{length, getD, set}
 use borrow.Author.Tests.{le-leb, lt-leb, eq-eqb, ne-eqb}
 use Rattle.code.specs.Segments.{emitted, emittedTop, targeted, aimedOne, aimedRange, relocatedOne, relocatedRange, moved, movedCount, BREAK, CONTINUE}
-use Rattle.code.proofs.Runs.{pair-written, aim-on, aim-end, move-on, move-end, aim-next, move-next}
+use Rattle.code.proofs.Runs.{aim-on, aim-end, move-on, move-end, aim-next, move-next}
 use Rattle.code.proofs.segment.set_target.Statement.{statement}
 use Rattle.code.proofs.segment.set_target.Tie as tie
 use Rattle.code.proofs.segment.set_target.Reads as reads
 use Rattle.code.proofs.segment.set_target.Lts as lts
-use Rattle.code.proofs.segment.put_word.Reads as put-word-reads
 use Rattle.code.proofs.segment.wide.Reads as wide-reads
 
 -- src/segment.rt:55:22

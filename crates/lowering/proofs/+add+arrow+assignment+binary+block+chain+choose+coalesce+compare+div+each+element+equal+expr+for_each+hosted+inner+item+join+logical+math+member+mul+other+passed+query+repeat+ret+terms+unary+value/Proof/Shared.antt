@@ -99,7 +99,7 @@ use Rattle.builder.proofs.failed.Reads as failed-reads
 use Rattle.lowering.proofs.interning.constant.Reads as constant-reads
 use Rattle.builder.proofs.push.Reads as push-reads
 use Rattle.builder.proofs.segments.open_segment.Reads as open-segment-reads
-use Rattle.lowering.proofs.assign.one_more.Reads as one-more-reads
+use Rattle.workspace.proofs.counts.one_more.Reads as one-more-reads
 use Rattle.lowering.proofs.assign.rule_at.Reads as rule-at-reads
 use Rattle.lowering.proofs.assign.store.Reads as store-reads
 use Rattle.lowering.proofs.assign.target_refusal.Reads as target-refusal-reads

@@ -16,7 +16,7 @@ use Rattle.lowering.proofs.assign.path_end.Reads as path-end
 use Rattle.lowering.proofs.assign.path_end.Kinds as path-end-kinds
 use Rattle.lowering.proofs.assign.+path_end.Lts-path_end as path-end-lts
 use Rattle.lowering.proofs.assign.no_path.Reads as no-path-reads
-use Rattle.lowering.proofs.assign.one_more.Reads as one-more-reads
+use Rattle.workspace.proofs.counts.one_more.Reads as one-more-reads
 use Rattle.lowering.proofs.assign.rule_at.Reads as rule-at-reads
 use Rattle.tree.proofs.count_at.Reads as count-at-reads
 use Rattle.tree.proofs.first_at.Reads as first-at-reads

@@ -7,8 +7,6 @@ use Rattle.lowering.proofs.interning.hash.Statement.{statement}
 use Rattle.lowering.proofs.interning.hash.Tie as tie
 use Rattle.lowering.proofs.interning.hash.Reads as reads
 use Rattle.lowering.proofs.interning.hash.Lts as lts
-use Rattle.lowering.proofs.interning.high.Reads as high-reads
-use Rattle.lowering.proofs.interning.low.Reads as low-reads
 use Rattle.lowering.proofs.interning.wide.Reads as wide-reads
 use Rattle.lowering.proofs.pools.intern_pair.Reads as intern-pair-reads
 

@@ -7,8 +7,6 @@ use Rattle.lowering.proofs.interning.member.Statement.{statement}
 use Rattle.lowering.proofs.interning.member.Tie as tie
 use Rattle.lowering.proofs.interning.member.Reads as reads
 use Rattle.lowering.proofs.interning.member.Lts as lts
-use Rattle.lowering.proofs.interning.high.Reads as high-reads
-use Rattle.lowering.proofs.interning.low.Reads as low-reads
 use Rattle.lowering.proofs.interning.text_place.Reads as text-place-reads
 use Rattle.lowering.proofs.pools.intern_member.Reads as intern-member-reads
 

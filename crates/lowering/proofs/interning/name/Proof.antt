@@ -7,8 +7,6 @@ use Rattle.lowering.proofs.interning.name.Statement.{statement}
 use Rattle.lowering.proofs.interning.name.Tie as tie
 use Rattle.lowering.proofs.interning.name.Reads as reads
 use Rattle.lowering.proofs.interning.name.Lts as lts
-use Rattle.lowering.proofs.interning.high.Reads as high-reads
-use Rattle.lowering.proofs.interning.low.Reads as low-reads
 use Rattle.lowering.proofs.interning.text_place.Reads as text-place-reads
 use Rattle.lowering.proofs.pools.intern_name.Reads as intern-name-reads
 

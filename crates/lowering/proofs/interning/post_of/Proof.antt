@@ -15,7 +15,6 @@ use Rattle.lowering.proofs.interning.post_of.Statement.{statement}
 use Rattle.lowering.proofs.interning.post_of.Tie as tie
 use Rattle.lowering.proofs.interning.post_of.Reads as reads
 use Rattle.lowering.proofs.interning.post_of.Lts as lts
-use Rattle.lowering.proofs.interning.behind_plain.Reads as behind-plain-reads
 use Rattle.numeric.proofs.PostOp.is_identity.Reads as is-identity-reads
 use Rattle.lowering.proofs.pools.intern_pair.Reads as intern-pair-reads
 
@@ -36,8 +35,8 @@ returns c =
 intern-pair-requires : tie.Need-intern-pair-requires
 intern-pair-requires c κs = search needs
 
-behind-plain-requires : tie.Need-behind-plain-requires
-behind-plain-requires c κs = search needs
+one-more-requires : tie.Need-one-more-requires
+one-more-requires c κs = search needs
 
 same-length : tie.Need-same-length
 same-length c = search needs
@@ -47,7 +46,7 @@ unfolding post
 returns-2 c =
     let s = c .before .before .before .before .before .before .before .before in
     let held = s .good .1 .1 .1 .0 .1 .1 in
-    _∙_ {A = Found} (entered-as after (λ n. set-posts n (s .args .st)) _ _ _ (c .before .before .before .intern-pair .ensures .0) (c .behind-plain .ensures) (c .before .before .before .intern-pair .ensures .1))
+    _∙_ {A = Found} (entered-as after (λ n. set-posts n (s .args .st)) _ _ _ (c .before .before .before .intern-pair .ensures .0) (c .one-more .ensures) (c .before .before .before .intern-pair .ensures .1))
     (sym (chosen-no {A = Found} _ _ _ (tested (s .args .p) (patterns (s .args .bits)) (held .0 .1) (held .1 .0 .1) (s .pre) (c .before .before .before .before .before .before .is-identity .ensures) ∙ c .before .before .before .before .before .if1 .left)))
 
 pub post-of-spec : {M : Type 1} → statement M
@@ -57,6 +56,6 @@ post-of-spec =
     is-identity-requires
     returns
     intern-pair-requires
-    behind-plain-requires
+    one-more-requires
     same-length
     returns-2)

@@ -7,14 +7,14 @@ use Rattle.lowering.proofs.pools.append_pair.Tie as tie
 returns : tie.Need-returns
 returns c = appended-full _ _ _ _ _ (c .if1 .taken)
 
-mul-put-two : tie.Need-mul-put-two
-mul-put-two c = search needs
+mul-put-pair : tie.Need-mul-put-pair
+mul-put-pair c = search needs
 
-add-put-two : tie.Need-add-put-two
-add-put-two c = search needs
+add-put-pair : tie.Need-add-put-pair
+add-put-pair c = search needs
 
-put-two-requires : tie.Need-put-two-requires
-put-two-requires c κs = search needs
+put-pair-requires : tie.Need-put-pair-requires
+put-pair-requires c κs = search needs
 
 add-result : tie.Need-add-result
 add-result c = search needs
@@ -23,9 +23,9 @@ same-length : tie.Need-same-length
 same-length c = search needs
 
 returns-2 : tie.Need-returns-2
-returns-2 c = appended-new _ _ _ _ _ (omega arith) (c .before .before .put-two .ensures)
+returns-2 c = appended-new _ _ _ _ _ (omega arith) (c .before .before .put-pair .ensures)
 
 pub append-pair-spec : {M : Type 1} → statement M
 append-pair-spec =
     tie.close
-    (tie.spec returns mul-put-two add-put-two put-two-requires add-result same-length returns-2)
+    (tie.spec returns mul-put-pair add-put-pair put-pair-requires add-result same-length returns-2)

@@ -4,21 +4,21 @@ use borrow.Author.Needs.{needs}
 use Rattle.lowering.proofs.pools.put_four.Statement.{statement}
 use Rattle.lowering.proofs.pools.put_four.Tie as tie
 
-put-two-requires : tie.Need-put-two-requires
-put-two-requires c κs = search needs
+put-pair-requires : tie.Need-put-pair-requires
+put-pair-requires c κs = search needs
 
-add-put-two : tie.Need-add-put-two
-add-put-two c = search needs
+add-put-pair : tie.Need-add-put-pair
+add-put-pair c = search needs
 
-put-two-requires-2 : tie.Need-put-two-requires-2
-put-two-requires-2 c κs = search needs
+put-pair-requires-2 : tie.Need-put-pair-requires-2
+put-pair-requires-2 c κs = search needs
 
 same-length : tie.Need-same-length
 same-length c = search needs
 
 returns : tie.Need-returns
-returns c = sets-behind (c .before .before .before .before .before .before .before .before .before .args .ws .now) (c .before .before .before .before .before .before .before .before .before .args .at) (c .before .before .before .before .before .before .before .before .before .args .a ∷ c .before .before .before .before .before .before .before .before .before .args .b ∷ []) (c .before .before .before .before .before .before .before .before .before .args .c ∷ c .before .before .before .before .before .before .before .before .before .args .d ∷ []) (c .before .before .before .before .before .before .put-two .ensures) (c .before .before .put-two2 .ensures)
+returns c = sets-behind (c .before .before .before .before .before .before .before .before .before .args .ws .now) (c .before .before .before .before .before .before .before .before .before .args .at) (c .before .before .before .before .before .before .before .before .before .args .a ∷ c .before .before .before .before .before .before .before .before .before .args .b ∷ []) (c .before .before .before .before .before .before .before .before .before .args .c ∷ c .before .before .before .before .before .before .before .before .before .args .d ∷ []) (c .before .before .before .before .before .before .put-pair .ensures) (c .before .before .put-pair2 .ensures)
 
 pub put-four-spec : {M : Type 1} → statement M
 put-four-spec =
-    tie.close (tie.spec put-two-requires add-put-two put-two-requires-2 same-length returns)
+    tie.close (tie.spec put-pair-requires add-put-pair put-pair-requires-2 same-length returns)

@@ -15,13 +15,13 @@ returns : tie.Need-returns
 unfolding constOf
 returns c = c .float-bits .ensures ∙ not-hash-at (c .before .before .args .p) _ _ (c .before .match .keys2)
 
-low-bits-requires : tie.Need-low-bits-requires
-low-bits-requires c κs = search needs
+low-requires : tie.Need-low-requires
+low-requires c κs = search needs
 
 returns-2 : tie.Need-returns-2
 unfolding constOf
-returns-2 c = c .low-bits .ensures ∙ is-hash _ _ _ refl (c .before .before .p .given .1)
+returns-2 c = c .low .ensures ∙ is-hash _ _ _ refl (c .before .before .p .given .1)
 
 pub constant-bits-spec : {M : Type 1} → statement M
 constant-bits-spec =
-    tie.close (tie.spec enum-known-p float-bits-requires returns low-bits-requires returns-2)
+    tie.close (tie.spec enum-known-p float-bits-requires returns low-requires returns-2)
