@@ -5,4 +5,5 @@ pub mod Kinds
 pub mod Payloads
 pub mod Steps
 pub mod Parts
+pub mod Leaves
 pub mod Rules
