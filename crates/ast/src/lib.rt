@@ -1,4 +1,4 @@
-// The tree image: the rule of each operator code.
+// The tree image: its header, the operator codes, and the rule of each.
 pub mod header;
 pub mod operators;
 pub mod rules;

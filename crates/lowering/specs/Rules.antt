@@ -1,4 +1,4 @@
--- What each rule makes of the builder's state and the workspace's words, for the node at a place of the tree image. Definitions only.
+-- What each rule with operands, and the node at a place of the tree image, makes of the builder's state and the workspace's words. Definitions only.
 use mathlib.Core.Bool.{Bool, true, false, cond}
 use mathlib.Core.List.{List, [], _∷_}
 use Prim.Native.Nat.{ℕ, zero, suc, _-_}

@@ -1,4 +1,4 @@
-// Calls: a call's number and the places of its arguments' starts, an argument's segment, the constants of logic.
+// Calls: a call's number and the places of its arguments' starts, and an argument's segment.
 use crate::interning::CallEntry;
 use crate::parts::instr;
 use crate::pools;

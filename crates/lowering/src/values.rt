@@ -1,4 +1,4 @@
-// Values: constants, strings, resources, loads, members, and what an assignment stores to.
+// Values: what a payload reads as; constants, strings, resources and loads; what stands behind the base of a member and the index of an array.
 use crate::interning;
 use crate::parts::hash_instr;
 use crate::parts::member_put_post;
