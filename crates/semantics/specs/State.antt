@@ -40,125 +40,39 @@ pub record Pools : Type 0 where
   pub calls : List CallInfo
   pub segments : List (List Item)
 
+-- the pools by their lists, in the order of the fields
+abbrev pub pools : List ℕ → List Post → List ℕ → List Name → List ℕ → List MemberRead → List MemberStore → List CallInfo → List (List Item) → Pools
+pools c p h n t m s q g = record { consts = c; posts = p; hashes = h; names = n; temps = t; members = m; stores = s; calls = q; segments = g }
+
 abbrev pub noPools : Pools
-noPools = record { consts = []; posts = []; hashes = []; names = []; temps = []; members = []; stores = []; calls = []; segments = [] }
+noPools = pools [] [] [] [] [] [] [] [] []
 
 abbrev pub set-consts : List ℕ → Pools → Pools
-set-consts x s = record {
-  consts = x;
-  posts = s .posts;
-  hashes = s .hashes;
-  names = s .names;
-  temps = s .temps;
-  members = s .members;
-  stores = s .stores;
-  calls = s .calls;
-  segments = s .segments;
-}
+set-consts x s = pools x (s .posts) (s .hashes) (s .names) (s .temps) (s .members) (s .stores) (s .calls) (s .segments)
 
 abbrev pub set-posts : List Post → Pools → Pools
-set-posts x s = record {
-  consts = s .consts;
-  posts = x;
-  hashes = s .hashes;
-  names = s .names;
-  temps = s .temps;
-  members = s .members;
-  stores = s .stores;
-  calls = s .calls;
-  segments = s .segments;
-}
+set-posts x s = pools (s .consts) x (s .hashes) (s .names) (s .temps) (s .members) (s .stores) (s .calls) (s .segments)
 
 abbrev pub set-hashes : List ℕ → Pools → Pools
-set-hashes x s = record {
-  consts = s .consts;
-  posts = s .posts;
-  hashes = x;
-  names = s .names;
-  temps = s .temps;
-  members = s .members;
-  stores = s .stores;
-  calls = s .calls;
-  segments = s .segments;
-}
+set-hashes x s = pools (s .consts) (s .posts) x (s .names) (s .temps) (s .members) (s .stores) (s .calls) (s .segments)
 
 abbrev pub set-names : List Name → Pools → Pools
-set-names x s = record {
-  consts = s .consts;
-  posts = s .posts;
-  hashes = s .hashes;
-  names = x;
-  temps = s .temps;
-  members = s .members;
-  stores = s .stores;
-  calls = s .calls;
-  segments = s .segments;
-}
+set-names x s = pools (s .consts) (s .posts) (s .hashes) x (s .temps) (s .members) (s .stores) (s .calls) (s .segments)
 
 abbrev pub set-temps : List ℕ → Pools → Pools
-set-temps x s = record {
-  consts = s .consts;
-  posts = s .posts;
-  hashes = s .hashes;
-  names = s .names;
-  temps = x;
-  members = s .members;
-  stores = s .stores;
-  calls = s .calls;
-  segments = s .segments;
-}
+set-temps x s = pools (s .consts) (s .posts) (s .hashes) (s .names) x (s .members) (s .stores) (s .calls) (s .segments)
 
 abbrev pub set-members : List MemberRead → Pools → Pools
-set-members x s = record {
-  consts = s .consts;
-  posts = s .posts;
-  hashes = s .hashes;
-  names = s .names;
-  temps = s .temps;
-  members = x;
-  stores = s .stores;
-  calls = s .calls;
-  segments = s .segments;
-}
+set-members x s = pools (s .consts) (s .posts) (s .hashes) (s .names) (s .temps) x (s .stores) (s .calls) (s .segments)
 
 abbrev pub set-stores : List MemberStore → Pools → Pools
-set-stores x s = record {
-  consts = s .consts;
-  posts = s .posts;
-  hashes = s .hashes;
-  names = s .names;
-  temps = s .temps;
-  members = s .members;
-  stores = x;
-  calls = s .calls;
-  segments = s .segments;
-}
+set-stores x s = pools (s .consts) (s .posts) (s .hashes) (s .names) (s .temps) (s .members) x (s .calls) (s .segments)
 
 abbrev pub set-calls : List CallInfo → Pools → Pools
-set-calls x s = record {
-  consts = s .consts;
-  posts = s .posts;
-  hashes = s .hashes;
-  names = s .names;
-  temps = s .temps;
-  members = s .members;
-  stores = s .stores;
-  calls = x;
-  segments = s .segments;
-}
+set-calls x s = pools (s .consts) (s .posts) (s .hashes) (s .names) (s .temps) (s .members) (s .stores) x (s .segments)
 
 abbrev pub set-segments : List (List Item) → Pools → Pools
-set-segments x s = record {
-  consts = s .consts;
-  posts = s .posts;
-  hashes = s .hashes;
-  names = s .names;
-  temps = s .temps;
-  members = s .members;
-  stores = s .stores;
-  calls = s .calls;
-  segments = x;
-}
+set-segments x s = pools (s .consts) (s .posts) (s .hashes) (s .names) (s .temps) (s .members) (s .stores) (s .calls) x
 
 -- 01, The program image: "Flag bits from 0: FLOAT_ONLY, .., USES_RANDOM_OP", and float_loop
 pub record Flags : Type 0 where
