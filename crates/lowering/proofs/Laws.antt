@@ -1,11 +1,14 @@
 -- What the parts of a rule give, put together as its definition has them. Assumes nothing.
-use mathlib.Core.Path.{_≡_, ap, _∙_}
+use mathlib.Core.Path.{_≡_, sym, ap, _∙_}
 use mathlib.Core.Bool.{Bool, cond}
 use mathlib.Core.List.{List}
-use Prim.Native.Nat.{ℕ, _+_}
+use Prim.Native.Nat.{ℕ, _+_, _<_}
 use lib.Dec.{ltb}
 use lib.ListN.{set}
-use Rattle.numeric.specs.Post.{Post}
+use Rattle.numeric.specs.Post.{Post, isIdentity}
+use Rattle.numeric.specs.PostOp.{postOf, identityOp}
+use Rattle.numeric.specs.declared.PostOp.{PostOp}
+use Rattle.numeric.proofs.Identity.{identity-is}
 use Rattle.payload.specs.declared.NameRef.{NameRef}
 use Rattle.builder.specs.declared.State.{State}
 use Rattle.builder.specs.Steps.{Held, emitted, failed, flushed}
@@ -23,6 +26,10 @@ gone f e h = h ∙ ap (λ (x : Found). going x f) e
 
 pub same-post : {a b x y : ℕ} → a ≡ x → b ≡ y → _≡_ {A = Post} (record { scale = a; offset = b }) (record { scale = x; offset = y })
 same-post e f = λ j. record { scale = e j; offset = f j }
+
+-- the test of the floats is the test of their patterns
+pub tested : (q : PostOp) (p : Post) {b : Bool} → p .scale < 4294967296 → p .offset < 4294967296 → q ≡ postOf p → b ≡ identityOp q → isIdentity p ≡ b
+tested q p hs ho e t = sym (identity-is p hs ho) ∙ ap identityOp (sym e) ∙ sym t
 
 pub hash-at : {v x : ℕ} {s t : State} (w : List ℕ) → v ≡ x → s ≡ t → B.hash v (s, w) ≡ B.hash x (t, w)
 hash-at w e f = λ j. B.hash (e j) (f j, w)

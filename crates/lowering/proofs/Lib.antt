@@ -9,7 +9,6 @@ pub mod Choice
 pub mod Others
 pub mod Missed
 pub mod Laws
-pub mod Posted
 pub mod Paths
 pub mod Variants
 pub mod Refused

@@ -129,13 +129,11 @@ pub(crate) fn member_put_post(
 pub(crate) fn post_instr(tree: &[u8], at: usize, ws: &mut [u32], st: State) -> State
     ensures { λ r. ⌜ _≡_ {A = Held} (r, now (ws .exit)) (postInstr (now (tree .entry)) at (st, now (ws .entry))) ⌝ }
 {
-    let e = post(tree, at, ws, st);
-    let s = e.state;
-    let q = e.index;
-    if q.is_plain() {
-        return builder::flush(ws, s);
+    let p = PostOp::of_bits(tree::scale_at(tree, at), tree::offset_at(tree, at));
+    if p.is_identity() {
+        return builder::flush(ws, st);
     }
-    instr(ws, s, opcodes::POST, 0, 0, q.0)
+    put_post(tree, at, ws, st, opcodes::POST, 0, 0)
 }
 
 // An instruction whose target is not known yet, and its place in the open segment.

@@ -1,7 +1,6 @@
 pub mod Kinds
 pub mod Opcodes
 pub mod Subs
-pub mod Slots
 pub mod Targets
 pub mod Instruction
 pub mod Program

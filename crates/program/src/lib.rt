@@ -5,7 +5,6 @@ pub mod targets;
 
 ghost use mathlib.Core.Path.{_≡_};
 ghost use Rattle.program.specs.Kinds.{inFloatLoop};
-ghost use Rattle.program.specs.Slots.{isPlain};
 
 pub struct ConstIdx(pub u32);
 
@@ -26,12 +25,6 @@ pub struct PostIdx(pub u16);
 impl PostIdx {
     // The identity: the plain instruction form.
     pub const PLAIN: PostIdx = PostIdx(0);
-
-    pub fn is_plain(self) -> bool
-        ensures { λ r. ⌜ r ≡ isPlain (self .0) ⌝ }
-    {
-        self.0 == PostIdx::PLAIN.0
-    }
 }
 
 // How deep a program's operand stack, loops and handlers get.

@@ -1,14 +1,10 @@
-use mathlib.Core.Path.{_≡_, refl, sym, ap, _∙_}
-use mathlib.Core.Bool.{Bool}
-use Prim.Native.Nat.{ℕ, _<_}
-use Rattle.numeric.specs.Post.{Post, isIdentity}
-use Rattle.numeric.specs.PostOp.{patterns, postOf, identityOp}
-use Rattle.numeric.specs.declared.PostOp.{PostOp}
-use Rattle.numeric.proofs.Identity.{identity-is}
+use mathlib.Core.Path.{sym, _∙_}
+use Rattle.numeric.specs.PostOp.{patterns}
 use Rattle.builder.specs.Fields.{set-posts, set-flags}
 use Rattle.builder.specs.Steps.{Held}
 use Rattle.lowering.specs.Pools.{Found, post, after}
 use Rattle.lowering.proofs.Entered.{entered-as}
+use Rattle.lowering.proofs.Laws.{tested}
 use Rattle.builder.proofs.Choice.{chosen-no, chosen-yes}
 use borrow.Author.Needs.{needs}
 use Rattle.lowering.proofs.interning.post_of.Statement.{statement}
@@ -17,10 +13,6 @@ use Rattle.lowering.proofs.interning.post_of.Reads as reads
 use Rattle.lowering.proofs.interning.post_of.Lts as lts
 use Rattle.numeric.proofs.PostOp.is_identity.Reads as is-identity-reads
 use Rattle.lowering.proofs.pools.intern_pair.Reads as intern-pair-reads
-
--- the test of the floats is the test of their patterns
-tested : (q : PostOp) (p : Post) {b : Bool} → p .scale < 4294967296 → p .offset < 4294967296 → q ≡ postOf p → b ≡ identityOp q → isIdentity p ≡ b
-tested q p hs ho e t = sym (identity-is p hs ho) ∙ ap identityOp (sym e) ∙ sym t
 
 is-identity-requires : tie.Need-is-identity-requires
 is-identity-requires c κs = search needs
