@@ -43,7 +43,7 @@ pub enum StoreRoot {
     Other,
 }
 
-pub(crate) fn rule_at(tree: &[u8], at: usize) -> u8
+fn rule_at(tree: &[u8], at: usize) -> u8
     ensures { λ r. ⌜ r ≡ R.rule (now (tree .entry)) at ⌝ }
 {
     ast::rule(tree::op_at(tree, at))

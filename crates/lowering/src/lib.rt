@@ -1,4 +1,5 @@
 // The lowering: an expression picks its operator's rule, and that rule reads its operands as expressions; the remaining levels fall.
+// The table of rules is laid out once for a tree, and lent.
 mod assign;
 mod calls;
 mod control;
@@ -7,12 +8,14 @@ mod logic;
 mod parts;
 mod pools;
 mod regions;
+mod rules;
 mod steps;
 mod values;
 
 use answers::refusals;
 use ast::header;
 use ast::operators;
+use ast::rules::RULES;
 use builder::State;
 use builder::segments;
 use code::segment;
@@ -42,6 +45,7 @@ ghost use Prim.Native.Nat.{_-_, _≤_};
 ghost use lib.Dec.{eqb};
 ghost use Rattle.wire.specs.Bytes.{be8};
 ghost use Rattle.ast.specs.Node.{firstAt, countAt};
+ghost use Rattle.ast.specs.Rules.{HasRules};
 ghost use Rattle.program.specs.Image.{bit};
 ghost use Rattle.builder.specs.Steps.{Held};
 ghost use Rattle.lowering.specs.Parts.{eachNext};
@@ -51,7 +55,16 @@ ghost use Rattle.lowering.specs.Rules as R;
 pub fn lower(tree: &[u8], ws: &mut [u32]) -> State
     ensures { λ r. ⌜ _≡_ {A = Held} (r, now (ws .exit)) (R.lowered (now (tree .entry)) (now (ws .entry))) ⌝ }
 {
-    let s = expr(tree, header::ROOT, ws, start(), false, header::LEVELS);
+    let table = RULES;
+    let s = expr(
+        tree,
+        header::ROOT,
+        ws,
+        start(),
+        false,
+        header::LEVELS,
+        &table,
+    );
     let e = instr(ws, s, opcodes::END, 0, 0, 0);
     segments::aim_from(ws, e, 0, 0, 0);
     e
@@ -130,24 +143,33 @@ fn leaf(tree: &[u8], at: usize, ws: &mut [u32], st: State, looping: bool, rule: 
 }
 
 // The node at `at` as an expression.
-fn expr(tree: &[u8], at: usize, ws: &mut [u32], st: State, looping: bool, levels: u16) -> State
+fn expr(
+    tree: &[u8],
+    at: usize,
+    ws: &mut [u32],
+    st: State,
+    looping: bool,
+    levels: u16,
+    table: &[u8; 256],
+) -> State
+    requires { ⌜ HasRules (now table) ⌝ }
     ensures { λ r. ⌜ _≡_ {A = Held} (r, now (ws .exit)) (R.expr (now (tree .entry)) levels at looping (st, now (ws .entry))) ⌝ }
 {
     if levels == 0 {
         return builder::failed(ws, st, refusals::FAILED);
     }
-    let rule = assign::rule_at(tree, at);
+    let rule = rules::rule_at(tree, at, table);
     let n = levels - 1;
     match rule {
-        operators::ARRAY => element(tree, at, ws, st, looping, n),
-        operators::MEMBER_ACCESSOR => member(tree, at, ws, st, looping, n),
-        operators::QUERY_FUNCTION => query(tree, at, ws, st, n),
-        operators::LESS_THAN => compare(tree, at, ws, st, subs::LT, looping, n),
-        operators::LESS_EQUAL => compare(tree, at, ws, st, subs::LE, looping, n),
-        operators::GREATER_EQUAL => compare(tree, at, ws, st, subs::GE, looping, n),
-        operators::GREATER_THAN => compare(tree, at, ws, st, subs::GT, looping, n),
-        operators::LOGICAL_EQUAL => equal(tree, at, ws, st, subs::EQ, looping, n),
-        operators::LOGICAL_NOT_EQUAL => equal(tree, at, ws, st, subs::NE, looping, n),
+        operators::ARRAY => element(tree, at, ws, st, looping, n, table),
+        operators::MEMBER_ACCESSOR => member(tree, at, ws, st, looping, n, table),
+        operators::QUERY_FUNCTION => query(tree, at, ws, st, n, table),
+        operators::LESS_THAN => compare(tree, at, ws, st, subs::LT, looping, n, table),
+        operators::LESS_EQUAL => compare(tree, at, ws, st, subs::LE, looping, n, table),
+        operators::GREATER_EQUAL => compare(tree, at, ws, st, subs::GE, looping, n, table),
+        operators::GREATER_THAN => compare(tree, at, ws, st, subs::GT, looping, n, table),
+        operators::LOGICAL_EQUAL => equal(tree, at, ws, st, subs::EQ, looping, n, table),
+        operators::LOGICAL_NOT_EQUAL => equal(tree, at, ws, st, subs::NE, looping, n, table),
         operators::LOGICAL_AND => logical(
             tree,
             at,
@@ -157,6 +179,7 @@ fn expr(tree: &[u8], at: usize, ws: &mut [u32], st: State, looping: bool, levels
             opcodes::AND_LAST,
             looping,
             n,
+            table,
         ),
         operators::LOGICAL_OR => logical(
             tree,
@@ -167,23 +190,24 @@ fn expr(tree: &[u8], at: usize, ws: &mut [u32], st: State, looping: bool, levels
             opcodes::OR_LAST,
             looping,
             n,
+            table,
         ),
-        operators::NULL_COALESCING => coalesce(tree, at, ws, st, looping, n),
-        operators::CONDITIONAL => choose(tree, at, ws, st, looping, n),
-        operators::SEMICOLON => block(tree, at, ws, st, looping, n),
-        operators::LOOP => repeat(tree, at, ws, st, looping, n),
-        operators::FOR_EACH => for_each(tree, at, ws, st, looping, n),
-        operators::ASSIGNMENT => assignment(tree, at, ws, st, looping, n),
-        operators::POINTER => arrow(tree, at, ws, st, looping, n),
-        operators::LEFT_BRACKET => inner(tree, at, ws, st, looping, n),
-        operators::LEFT_PARENTHESIS => inner(tree, at, ws, st, looping, n),
-        operators::NEGATE => unary(tree, at, ws, st, opcodes::NEGATE, looping, n),
-        operators::LOGICAL_NOT => unary(tree, at, ws, st, opcodes::NOT, looping, n),
-        operators::ADD => add(tree, at, ws, st, looping, n),
-        operators::MUL => mul(tree, at, ws, st, looping, n),
-        operators::DIV => div(tree, at, ws, st, looping, n),
-        operators::HOST_MATH => math(tree, at, ws, st, 0, looping, n),
-        operators::HOST_MATH_VOLATILE => math(tree, at, ws, st, Flags::RANDOM, looping, n),
+        operators::NULL_COALESCING => coalesce(tree, at, ws, st, looping, n, table),
+        operators::CONDITIONAL => choose(tree, at, ws, st, looping, n, table),
+        operators::SEMICOLON => block(tree, at, ws, st, looping, n, table),
+        operators::LOOP => repeat(tree, at, ws, st, looping, n, table),
+        operators::FOR_EACH => for_each(tree, at, ws, st, looping, n, table),
+        operators::ASSIGNMENT => assignment(tree, at, ws, st, looping, n, table),
+        operators::POINTER => arrow(tree, at, ws, st, looping, n, table),
+        operators::LEFT_BRACKET => inner(tree, at, ws, st, looping, n, table),
+        operators::LEFT_PARENTHESIS => inner(tree, at, ws, st, looping, n, table),
+        operators::NEGATE => unary(tree, at, ws, st, opcodes::NEGATE, looping, n, table),
+        operators::LOGICAL_NOT => unary(tree, at, ws, st, opcodes::NOT, looping, n, table),
+        operators::ADD => add(tree, at, ws, st, looping, n, table),
+        operators::MUL => mul(tree, at, ws, st, looping, n, table),
+        operators::DIV => div(tree, at, ws, st, looping, n, table),
+        operators::HOST_MATH => math(tree, at, ws, st, 0, looping, n, table),
+        operators::HOST_MATH_VOLATILE => math(tree, at, ws, st, Flags::RANDOM, looping, n, table),
         _ => leaf(tree, at, ws, st, looping, rule),
     }
 }
@@ -191,7 +215,16 @@ fn expr(tree: &[u8], at: usize, ws: &mut [u32], st: State, looping: bool, levels
 // ---- values
 
 // array_element in the Rust: an element of an array variable.
-fn element(tree: &[u8], at: usize, ws: &mut [u32], st: State, looping: bool, levels: u16) -> State
+fn element(
+    tree: &[u8],
+    at: usize,
+    ws: &mut [u32],
+    st: State,
+    looping: bool,
+    levels: u16,
+    table: &[u8; 256],
+) -> State
+    requires { ⌜ HasRules (now table) ⌝ }
     ensures { λ r. ⌜ _≡_ {A = Held} (r, now (ws .exit)) (R.under (now (tree .entry)) levels (R.arrayElement (now (tree .entry))) at looping (st, now (ws .entry))) ⌝ }
 {
     if wire::get_u8(tree, 0, header::ARRAYS) != 1 {
@@ -205,7 +238,15 @@ fn element(tree: &[u8], at: usize, ws: &mut [u32], st: State, looping: bool, lev
         return builder::failed(ws, st, refusals::FAILED);
     };
     let s = not_float_only(st);
-    let t = expr(tree, tree::first_at(tree, at), ws, s, looping, levels);
+    let t = expr(
+        tree,
+        tree::first_at(tree, at),
+        ws,
+        s,
+        looping,
+        levels,
+        table,
+    );
     values::array_put(tree, at, ws, t, n)
 }
 
@@ -218,14 +259,16 @@ fn chain(
     last: NameRef,
     looping: bool,
     levels: u16,
+    table: &[u8; 256],
 ) -> State
+    requires { ⌜ HasRules (now table) ⌝ }
     ensures { λ r. ⌜ _≡_ {A = Held} (r, now (ws .exit)) (R.chain (now (tree .entry)) levels at last looping (st, now (ws .entry))) ⌝ }
 {
     if levels == 0 {
         return builder::failed(ws, st, refusals::FAILED);
     }
-    if assign::rule_at(tree, at) != operators::MEMBER_ACCESSOR {
-        return expr(tree, at, ws, st, looping, levels);
+    if rules::rule_at(tree, at, table) != operators::MEMBER_ACCESSOR {
+        return expr(tree, at, ws, st, looping, levels, table);
     }
     if tree::count_at(tree, at) == 0 {
         return builder::failed(ws, st, refusals::FAILED);
@@ -238,12 +281,22 @@ fn chain(
         last,
         looping,
         levels - 1,
+        table,
     );
     values::member_put(tree, at, ws, s, last)
 }
 
 // member_read in the Rust: a member of the value of a base.
-fn member(tree: &[u8], at: usize, ws: &mut [u32], st: State, looping: bool, levels: u16) -> State
+fn member(
+    tree: &[u8],
+    at: usize,
+    ws: &mut [u32],
+    st: State,
+    looping: bool,
+    levels: u16,
+    table: &[u8; 256],
+) -> State
+    requires { ⌜ HasRules (now table) ⌝ }
     ensures { λ r. ⌜ _≡_ {A = Held} (r, now (ws .exit)) (R.under (now (tree .entry)) levels (R.memberRead (now (tree .entry))) at looping (st, now (ws .entry))) ⌝ }
 {
     let s = flag(not_float_only(st), Flags::USES_MEMBERS);
@@ -254,7 +307,16 @@ fn member(tree: &[u8], at: usize, ws: &mut [u32], st: State, looping: bool, leve
     if tree::count_at(tree, at) == 0 {
         return builder::failed(ws, s, refusals::FAILED);
     }
-    let t = chain(tree, tree::first_at(tree, at), ws, s, last, looping, levels);
+    let t = chain(
+        tree,
+        tree::first_at(tree, at),
+        ws,
+        s,
+        last,
+        looping,
+        levels,
+        table,
+    );
     values::member_put(tree, at, ws, t, last)
 }
 
@@ -265,7 +327,9 @@ fn assignment(
     st: State,
     looping: bool,
     levels: u16,
+    table: &[u8; 256],
 ) -> State
+    requires { ⌜ HasRules (now table) ⌝ }
     ensures { λ r. ⌜ _≡_ {A = Held} (r, now (ws .exit)) (R.under (now (tree .entry)) levels (R.assignment (now (tree .entry))) levels at looping (st, now (ws .entry))) ⌝ }
 {
     let count = tree::count_at(tree, at);
@@ -278,7 +342,7 @@ fn assignment(
         return builder::failed(ws, st, refused);
     }
     let s = flag(st, Flags::HAS_ASSIGNMENT);
-    let t = value(tree, at, target, ws, s, looping, levels);
+    let t = value(tree, at, target, ws, s, looping, levels, table);
     assign::store(tree, target, at, ws, t, levels)
 }
 
@@ -291,25 +355,44 @@ fn value(
     st: State,
     looping: bool,
     levels: u16,
+    table: &[u8; 256],
 ) -> State
+    requires { ⌜ HasRules (now table) ⌝ }
     ensures { λ r. ⌜ _≡_ {A = Held} (r, now (ws .exit)) (R.under (now (tree .entry)) levels (R.value (now (tree .entry))) at first looping (st, now (ws .entry))) ⌝ }
 {
     if tree::count_at(tree, at) == 1 {
         let p = payload::payload_at(tree, at);
         return interning::constant(ws, st, values::constant_bits(p));
     }
-    expr(tree, tree::next_at(tree, first), ws, st, looping, levels)
+    expr(
+        tree,
+        tree::next_at(tree, first),
+        ws,
+        st,
+        looping,
+        levels,
+        table,
+    )
 }
 
 // ---- logic
 
 // Two operands with a Push between them, the one at `a` first.
-fn binary(tree: &[u8], a: usize, ws: &mut [u32], st: State, looping: bool, levels: u16) -> State
+fn binary(
+    tree: &[u8],
+    a: usize,
+    ws: &mut [u32],
+    st: State,
+    looping: bool,
+    levels: u16,
+    table: &[u8; 256],
+) -> State
+    requires { ⌜ HasRules (now table) ⌝ }
     ensures { λ r. ⌜ _≡_ {A = Held} (r, now (ws .exit)) (R.under (now (tree .entry)) levels (R.binary (now (tree .entry))) a looping (st, now (ws .entry))) ⌝ }
 {
-    let s = expr(tree, a, ws, st, looping, levels);
+    let s = expr(tree, a, ws, st, looping, levels, table);
     let t = builder::push(s);
-    expr(tree, tree::next_at(tree, a), ws, t, looping, levels)
+    expr(tree, tree::next_at(tree, a), ws, t, looping, levels, table)
 }
 
 fn compare(
@@ -320,7 +403,9 @@ fn compare(
     o: u8,
     looping: bool,
     levels: u16,
+    table: &[u8; 256],
 ) -> State
+    requires { ⌜ HasRules (now table) ⌝ }
     ensures { λ r. ⌜ _≡_ {A = Held} (r, now (ws .exit)) (R.under (now (tree .entry)) levels (R.compare (now (tree .entry))) o at looping (st, now (ws .entry))) ⌝ }
 {
     let count = tree::count_at(tree, at);
@@ -332,10 +417,10 @@ fn compare(
     let q = e.index;
     let a = tree::first_at(tree, at);
     if count == 1 {
-        let t = expr(tree, a, ws, s, looping, levels);
+        let t = expr(tree, a, ws, s, looping, levels, table);
         return logic::compare_const(tree, at, ws, t, o, q);
     }
-    let t = binary(tree, a, ws, s, looping, levels);
+    let t = binary(tree, a, ws, s, looping, levels, table);
     let u = instr(ws, t, opcodes::CMP, o, 0, q.0);
     pop(u, 1)
 }
@@ -348,7 +433,9 @@ fn equal(
     o: u8,
     looping: bool,
     levels: u16,
+    table: &[u8; 256],
 ) -> State
+    requires { ⌜ HasRules (now table) ⌝ }
     ensures { λ r. ⌜ _≡_ {A = Held} (r, now (ws .exit)) (R.under (now (tree .entry)) levels (R.equal (now (tree .entry))) o at looping (st, now (ws .entry))) ⌝ }
 {
     let count = tree::count_at(tree, at);
@@ -360,10 +447,10 @@ fn equal(
     let q = e.index;
     let a = tree::first_at(tree, at);
     if count == 1 {
-        let t = expr(tree, a, ws, s, looping, levels);
+        let t = expr(tree, a, ws, s, looping, levels, table);
         return logic::equal_const(tree, at, ws, t, o, q);
     }
-    let t = binary(tree, a, ws, s, looping, levels);
+    let t = binary(tree, a, ws, s, looping, levels, table);
     let u = instr(ws, t, opcodes::EQ, o, 0, q.0);
     pop(u, 1)
 }
@@ -378,7 +465,9 @@ fn logical(
     last: u8,
     looping: bool,
     levels: u16,
+    table: &[u8; 256],
 ) -> State
+    requires { ⌜ HasRules (now table) ⌝ }
     ensures { λ r. ⌜ _≡_ {A = Held} (r, now (ws .exit)) (R.under (now (tree .entry)) levels (R.logical (now (tree .entry))) step last at looping (st, now (ws .entry))) ⌝ }
 {
     let count = tree::count_at(tree, at);
@@ -399,6 +488,7 @@ fn logical(
         count - 1,
         looping,
         levels,
+        table,
     )
 }
 
@@ -414,10 +504,12 @@ fn join(
     m: u16,
     looping: bool,
     levels: u16,
+    table: &[u8; 256],
 ) -> State
+    requires { ⌜ HasRules (now table) ⌝ }
     ensures { λ r. ⌜ _≡_ {A = Held} (r, now (ws .exit)) (R.under (now (tree .entry)) levels (R.junction (now (tree .entry))) step last (q .0) m a looping (st, now (ws .entry))) ⌝ }
 {
-    let s = expr(tree, a, ws, st, looping, levels);
+    let s = expr(tree, a, ws, st, looping, levels, table);
     if m == 0 {
         return instr(ws, s, last, 0, 0, q.0);
     }
@@ -434,6 +526,7 @@ fn join(
         m - 1,
         looping,
         levels,
+        table,
     );
     land(ws, u, e.index)
 }
@@ -441,13 +534,30 @@ fn join(
 // ---- arithmetic
 
 // Brackets: the first child.
-fn inner(tree: &[u8], at: usize, ws: &mut [u32], st: State, looping: bool, levels: u16) -> State
+fn inner(
+    tree: &[u8],
+    at: usize,
+    ws: &mut [u32],
+    st: State,
+    looping: bool,
+    levels: u16,
+    table: &[u8; 256],
+) -> State
+    requires { ⌜ HasRules (now table) ⌝ }
     ensures { λ r. ⌜ _≡_ {A = Held} (r, now (ws .exit)) (R.under (now (tree .entry)) levels (R.bracket (now (tree .entry))) at looping (st, now (ws .entry))) ⌝ }
 {
     if tree::count_at(tree, at) == 0 {
         return builder::failed(ws, st, refusals::FAILED);
     }
-    expr(tree, tree::first_at(tree, at), ws, st, looping, levels)
+    expr(
+        tree,
+        tree::first_at(tree, at),
+        ws,
+        st,
+        looping,
+        levels,
+        table,
+    )
 }
 
 fn unary(
@@ -458,18 +568,37 @@ fn unary(
     op: u8,
     looping: bool,
     levels: u16,
+    table: &[u8; 256],
 ) -> State
+    requires { ⌜ HasRules (now table) ⌝ }
     ensures { λ r. ⌜ _≡_ {A = Held} (r, now (ws .exit)) (R.under (now (tree .entry)) levels (R.unary (now (tree .entry))) op at looping (st, now (ws .entry))) ⌝ }
 {
     if tree::count_at(tree, at) == 0 {
         return builder::failed(ws, st, refusals::FAILED);
     }
-    let s = expr(tree, tree::first_at(tree, at), ws, st, looping, levels);
+    let s = expr(
+        tree,
+        tree::first_at(tree, at),
+        ws,
+        st,
+        looping,
+        levels,
+        table,
+    );
     put_post(tree, at, ws, s, op, 0, 0)
 }
 
 // The n-ary +: the first term pushed, every further one added to it, the last with the post.
-fn add(tree: &[u8], at: usize, ws: &mut [u32], st: State, looping: bool, levels: u16) -> State
+fn add(
+    tree: &[u8],
+    at: usize,
+    ws: &mut [u32],
+    st: State,
+    looping: bool,
+    levels: u16,
+    table: &[u8; 256],
+) -> State
+    requires { ⌜ HasRules (now table) ⌝ }
     ensures { λ r. ⌜ _≡_ {A = Held} (r, now (ws .exit)) (R.under (now (tree .entry)) levels (R.add (now (tree .entry))) at looping (st, now (ws .entry))) ⌝ }
 {
     let count = tree::count_at(tree, at);
@@ -477,7 +606,7 @@ fn add(tree: &[u8], at: usize, ws: &mut [u32], st: State, looping: bool, levels:
         return builder::failed(ws, st, refusals::FAILED);
     }
     let first = tree::first_at(tree, at);
-    let s = expr(tree, first, ws, st, looping, levels);
+    let s = expr(tree, first, ws, st, looping, levels, table);
     if count == 1 {
         return post_instr(tree, at, ws, s);
     }
@@ -491,6 +620,7 @@ fn add(tree: &[u8], at: usize, ws: &mut [u32], st: State, looping: bool, levels:
         count - 2,
         looping,
         levels,
+        table,
     );
     pop(u, 1)
 }
@@ -505,29 +635,48 @@ fn terms(
     m: u16,
     looping: bool,
     levels: u16,
+    table: &[u8; 256],
 ) -> State
+    requires { ⌜ HasRules (now table) ⌝ }
     ensures { λ r. ⌜ _≡_ {A = Held} (r, now (ws .exit)) (R.under (now (tree .entry)) levels (R.addition (now (tree .entry))) at m a looping (st, now (ws .entry))) ⌝ }
 {
     let mut s = st;
     let mut term = a;
     let mut left = m;
     while left > 0 {
-        let t = expr(tree, term, ws, s, looping, levels);
+        let t = expr(tree, term, ws, s, looping, levels, table);
         s = instr(ws, t, opcodes::ADD_ACC, 0, 0, 0);
         term = tree::next_at(tree, term);
         left -= 1;
     }
-    let t = expr(tree, term, ws, s, looping, levels);
+    let t = expr(tree, term, ws, s, looping, levels, table);
     put_post(tree, at, ws, t, opcodes::ADD_LAST, 0, 0)
 }
 
-fn mul(tree: &[u8], at: usize, ws: &mut [u32], st: State, looping: bool, levels: u16) -> State
+fn mul(
+    tree: &[u8],
+    at: usize,
+    ws: &mut [u32],
+    st: State,
+    looping: bool,
+    levels: u16,
+    table: &[u8; 256],
+) -> State
+    requires { ⌜ HasRules (now table) ⌝ }
     ensures { λ r. ⌜ _≡_ {A = Held} (r, now (ws .exit)) (R.under (now (tree .entry)) levels (R.mul (now (tree .entry))) at looping (st, now (ws .entry))) ⌝ }
 {
     if tree::count_at(tree, at) < 2 {
         return builder::failed(ws, st, refusals::FAILED);
     }
-    let s = binary(tree, tree::first_at(tree, at), ws, st, looping, levels);
+    let s = binary(
+        tree,
+        tree::first_at(tree, at),
+        ws,
+        st,
+        looping,
+        levels,
+        table,
+    );
     let t = put_post(tree, at, ws, s, opcodes::MUL, 0, 0);
     pop(t, 1)
 }
@@ -542,18 +691,27 @@ fn divisor(tree: &[u8]) -> u8
 }
 
 // The second child first; its guard pushes the divisor.
-fn div(tree: &[u8], at: usize, ws: &mut [u32], st: State, looping: bool, levels: u16) -> State
+fn div(
+    tree: &[u8],
+    at: usize,
+    ws: &mut [u32],
+    st: State,
+    looping: bool,
+    levels: u16,
+    table: &[u8; 256],
+) -> State
+    requires { ⌜ HasRules (now table) ⌝ }
     ensures { λ r. ⌜ _≡_ {A = Held} (r, now (ws .exit)) (R.under (now (tree .entry)) levels (R.div (now (tree .entry))) at looping (st, now (ws .entry))) ⌝ }
 {
     if tree::count_at(tree, at) < 2 {
         return builder::failed(ws, st, refusals::FAILED);
     }
     let a = tree::first_at(tree, at);
-    let s = expr(tree, tree::next_at(tree, a), ws, st, looping, levels);
+    let s = expr(tree, tree::next_at(tree, a), ws, st, looping, levels, table);
     let e = guard(ws, s, opcodes::DIV_GUARD, divisor(tree), 0);
     let g = e.state;
     let t = steps::operand(g);
-    let u = expr(tree, a, ws, t, looping, levels);
+    let u = expr(tree, a, ws, t, looping, levels, table);
     let v = put_post(tree, at, ws, u, opcodes::DIV, 0, 0);
     let w = pop(v, 1);
     land(ws, w, e.index)
@@ -568,7 +726,9 @@ fn math(
     bits: u16,
     looping: bool,
     levels: u16,
+    table: &[u8; 256],
 ) -> State
+    requires { ⌜ HasRules (now table) ⌝ }
     ensures { λ r. ⌜ _≡_ {A = Held} (r, now (ws .exit)) (R.under (now (tree .entry)) levels (R.hostMath (now (tree .entry))) bits at looping (st, now (ws .entry))) ⌝ }
 {
     let s = flag(st, bits);
@@ -583,7 +743,18 @@ fn math(
     if count > 255 {
         return builder::failed(ws, s, refusals::FAILED);
     }
-    let t = hosted(tree, at, ws, s, f, count as u8, count - 1, looping, levels);
+    let t = hosted(
+        tree,
+        at,
+        ws,
+        s,
+        f,
+        count as u8,
+        count - 1,
+        looping,
+        levels,
+        table,
+    );
     pop(t, count - 1)
 }
 
@@ -598,26 +769,37 @@ fn hosted(
     m: u16,
     looping: bool,
     levels: u16,
+    table: &[u8; 256],
 ) -> State
+    requires { ⌜ HasRules (now table) ⌝ }
     ensures { λ r. ⌜ _≡_ {A = Held} (r, now (ws .exit)) (R.under (now (tree .entry)) levels (R.hosted (now (tree .entry))) at f k m (firstAt (now (tree .entry)) at) looping (st, now (ws .entry))) ⌝ }
 {
     let mut s = st;
     let mut argument = tree::first_at(tree, at);
     let mut left = m;
     while left > 0 {
-        let t = expr(tree, argument, ws, s, looping, levels);
+        let t = expr(tree, argument, ws, s, looping, levels, table);
         s = builder::push(t);
         argument = tree::next_at(tree, argument);
         left -= 1;
     }
-    let t = expr(tree, argument, ws, s, looping, levels);
+    let t = expr(tree, argument, ws, s, looping, levels, table);
     put_post(tree, at, ws, t, opcodes::HOST_MATH, k, f as u32)
 }
 
 // ---- calls
 
 // pointer in the Rust: the second child between PointerEnter, behind the first, and PointerLeave.
-fn arrow(tree: &[u8], at: usize, ws: &mut [u32], st: State, looping: bool, levels: u16) -> State
+fn arrow(
+    tree: &[u8],
+    at: usize,
+    ws: &mut [u32],
+    st: State,
+    looping: bool,
+    levels: u16,
+    table: &[u8; 256],
+) -> State
+    requires { ⌜ HasRules (now table) ⌝ }
     ensures { λ r. ⌜ _≡_ {A = Held} (r, now (ws .exit)) (R.under (now (tree .entry)) levels (R.pointer (now (tree .entry))) at looping (st, now (ws .entry))) ⌝ }
 {
     let s = flag(not_float_only(st), Flags::USES_ARROW);
@@ -628,15 +810,16 @@ fn arrow(tree: &[u8], at: usize, ws: &mut [u32], st: State, looping: bool, level
     let x = p.state;
     let q = p.index;
     let a = tree::first_at(tree, at);
-    let t = expr(tree, a, ws, x, looping, levels);
+    let t = expr(tree, a, ws, x, looping, levels, table);
     let e = guard(ws, t, opcodes::POINTER_ENTER, 0, q.0);
     let g = e.state;
-    let u = expr(tree, tree::next_at(tree, a), ws, g, looping, levels);
+    let u = expr(tree, tree::next_at(tree, a), ws, g, looping, levels, table);
     let v = instr(ws, u, opcodes::POINTER_LEAVE, 0, 0, q.0);
     land(ws, v, e.index)
 }
 
-fn query(tree: &[u8], at: usize, ws: &mut [u32], st: State, levels: u16) -> State
+fn query(tree: &[u8], at: usize, ws: &mut [u32], st: State, levels: u16, table: &[u8; 256]) -> State
+    requires { ⌜ HasRules (now table) ⌝ }
     ensures { λ r. ⌜ _≡_ {A = Held} (r, now (ws .exit)) (R.under (now (tree .entry)) levels (R.query (now (tree .entry))) at (st, now (ws .entry))) ⌝ }
 {
     let p = payload::payload_at(tree, at);
@@ -648,7 +831,16 @@ fn query(tree: &[u8], at: usize, ws: &mut [u32], st: State, levels: u16) -> Stat
     let first = s.arguments;
     let e = calls::begin_call(ws, s, q.index, q.impl_idx, count);
     let g = e.state;
-    let t = passed(tree, ws, g, tree::first_at(tree, at), count, first, levels);
+    let t = passed(
+        tree,
+        ws,
+        g,
+        tree::first_at(tree, at),
+        count,
+        first,
+        levels,
+        table,
+    );
     put_post(tree, at, ws, t, opcodes::CALL, 0, e.index.0 as u32)
 }
 
@@ -661,7 +853,9 @@ fn passed(
     m: u16,
     first: u16,
     levels: u16,
+    table: &[u8; 256],
 ) -> State
+    requires { ⌜ HasRules (now table) ⌝ }
     ensures { λ r. ⌜ _≡_ {A = Held} (r, now (ws .exit)) (R.under (now (tree .entry)) levels (R.arguments (now (tree .entry))) (st .base) (st .waiting) m a first (st, now (ws .entry))) ⌝ }
 {
     let base = st.base;
@@ -672,7 +866,7 @@ fn passed(
     let mut slot = first;
     while left > 0 {
         let t = segments::open_segment(s);
-        let u = expr(tree, argument, ws, t, false, levels);
+        let u = expr(tree, argument, ws, t, false, levels, table);
         s = calls::end_argument(ws, u, base, waiting, slot);
         argument = tree::next_at(tree, argument);
         slot = one_more(slot);
@@ -683,7 +877,16 @@ fn passed(
 
 // ---- control
 
-fn coalesce(tree: &[u8], at: usize, ws: &mut [u32], st: State, looping: bool, levels: u16) -> State
+fn coalesce(
+    tree: &[u8],
+    at: usize,
+    ws: &mut [u32],
+    st: State,
+    looping: bool,
+    levels: u16,
+    table: &[u8; 256],
+) -> State
+    requires { ⌜ HasRules (now table) ⌝ }
     ensures { λ r. ⌜ _≡_ {A = Held} (r, now (ws .exit)) (R.under (now (tree .entry)) levels (R.coalesce (now (tree .entry))) at looping (st, now (ws .entry))) ⌝ }
 {
     if tree::count_at(tree, at) < 2 {
@@ -693,12 +896,12 @@ fn coalesce(tree: &[u8], at: usize, ws: &mut [u32], st: State, looping: bool, le
     let e = guard(ws, st, opcodes::HANDLER_PUSH, 0, 0);
     let g = e.state;
     let s = steps::enter_handler(g);
-    let t = expr(tree, a, ws, s, looping, levels);
+    let t = expr(tree, a, ws, s, looping, levels, table);
     let u = steps::leave_handler(t);
     let f = guard(ws, u, opcodes::HANDLER_POP, 0, 0);
     let i = f.state;
     let v = land(ws, i, e.index);
-    let w = expr(tree, tree::next_at(tree, a), ws, v, looping, levels);
+    let w = expr(tree, tree::next_at(tree, a), ws, v, looping, levels, table);
     let x = land(ws, w, f.index);
     post_instr(tree, at, ws, x)
 }
@@ -712,17 +915,36 @@ fn other(
     st: State,
     looping: bool,
     levels: u16,
+    table: &[u8; 256],
 ) -> State
+    requires { ⌜ HasRules (now table) ⌝ }
     ensures { λ r. ⌜ _≡_ {A = Held} (r, now (ws .exit)) (R.under (now (tree .entry)) levels (R.otherwise (now (tree .entry))) at second looping (st, now (ws .entry))) ⌝ }
 {
     if tree::count_at(tree, at) < 3 {
         return interning::constant(ws, st, 0);
     }
-    expr(tree, tree::next_at(tree, second), ws, st, looping, levels)
+    expr(
+        tree,
+        tree::next_at(tree, second),
+        ws,
+        st,
+        looping,
+        levels,
+        table,
+    )
 }
 
 // conditional in the Rust: the second child, or the third.
-fn choose(tree: &[u8], at: usize, ws: &mut [u32], st: State, looping: bool, levels: u16) -> State
+fn choose(
+    tree: &[u8],
+    at: usize,
+    ws: &mut [u32],
+    st: State,
+    looping: bool,
+    levels: u16,
+    table: &[u8; 256],
+) -> State
+    requires { ⌜ HasRules (now table) ⌝ }
     ensures { λ r. ⌜ _≡_ {A = Held} (r, now (ws .exit)) (R.under (now (tree .entry)) levels (R.conditional (now (tree .entry))) at looping (st, now (ws .entry))) ⌝ }
 {
     if tree::count_at(tree, at) < 2 {
@@ -730,27 +952,36 @@ fn choose(tree: &[u8], at: usize, ws: &mut [u32], st: State, looping: bool, leve
     }
     let a = tree::first_at(tree, at);
     let b = tree::next_at(tree, a);
-    let s = expr(tree, a, ws, st, looping, levels);
+    let s = expr(tree, a, ws, st, looping, levels, table);
     let e = guard(ws, s, opcodes::JUMP_IF_FALSY, 0, 0);
     let g = e.state;
-    let t = expr(tree, b, ws, g, looping, levels);
+    let t = expr(tree, b, ws, g, looping, levels, table);
     let f = guard(ws, t, opcodes::JUMP, 0, 0);
     let i = f.state;
     let u = land(ws, i, e.index);
-    let v = other(tree, at, b, ws, u, looping, levels);
+    let v = other(tree, at, b, ws, u, looping, levels, table);
     let w = land(ws, v, f.index);
     post_instr(tree, at, ws, w)
 }
 
 // statements in the Rust: each statement, and the constant of the list behind the last.
-fn block(tree: &[u8], at: usize, ws: &mut [u32], st: State, looping: bool, levels: u16) -> State
+fn block(
+    tree: &[u8],
+    at: usize,
+    ws: &mut [u32],
+    st: State,
+    looping: bool,
+    levels: u16,
+    table: &[u8; 256],
+) -> State
+    requires { ⌜ HasRules (now table) ⌝ }
     ensures { λ r. ⌜ _≡_ {A = Held} (r, now (ws .exit)) (R.under (now (tree .entry)) levels (R.statements (now (tree .entry))) at looping (st, now (ws .entry))) ⌝ }
 {
     let mut s = st;
     let mut child = tree::first_at(tree, at);
     let mut left = tree::count_at(tree, at);
     while left > 0 {
-        s = item(tree, child, ws, s, looping, levels);
+        s = item(tree, child, ws, s, looping, levels, table);
         child = tree::next_at(tree, child);
         left -= 1;
     }
@@ -758,17 +989,35 @@ fn block(tree: &[u8], at: usize, ws: &mut [u32], st: State, looping: bool, level
 }
 
 // A statement of a list: only here is a Return one, elsewhere it is a constant.
-fn item(tree: &[u8], at: usize, ws: &mut [u32], st: State, looping: bool, levels: u16) -> State
+fn item(
+    tree: &[u8],
+    at: usize,
+    ws: &mut [u32],
+    st: State,
+    looping: bool,
+    levels: u16,
+    table: &[u8; 256],
+) -> State
+    requires { ⌜ HasRules (now table) ⌝ }
     ensures { λ r. ⌜ _≡_ {A = Held} (r, now (ws .exit)) (R.under (now (tree .entry)) levels (R.statement (now (tree .entry))) at looping (st, now (ws .entry))) ⌝ }
 {
-    if assign::rule_at(tree, at) == operators::RETURN {
-        return ret(tree, at, ws, st, looping, levels);
+    if rules::rule_at(tree, at, table) == operators::RETURN {
+        return ret(tree, at, ws, st, looping, levels, table);
     }
-    expr(tree, at, ws, st, looping, levels)
+    expr(tree, at, ws, st, looping, levels, table)
 }
 
 // A Return of a statement list.
-fn ret(tree: &[u8], at: usize, ws: &mut [u32], st: State, looping: bool, levels: u16) -> State
+fn ret(
+    tree: &[u8],
+    at: usize,
+    ws: &mut [u32],
+    st: State,
+    looping: bool,
+    levels: u16,
+    table: &[u8; 256],
+) -> State
+    requires { ⌜ HasRules (now table) ⌝ }
     ensures { λ r. ⌜ _≡_ {A = Held} (r, now (ws .exit)) (R.returned (now (tree .entry)) levels at looping (st, now (ws .entry))) ⌝ }
 {
     if levels == 0 {
@@ -778,12 +1027,29 @@ fn ret(tree: &[u8], at: usize, ws: &mut [u32], st: State, looping: bool, levels:
         let s = interning::constant(ws, st, 0);
         return put_post(tree, at, ws, s, opcodes::RETURN, 0, 0);
     }
-    let s = expr(tree, tree::first_at(tree, at), ws, st, looping, levels - 1);
+    let s = expr(
+        tree,
+        tree::first_at(tree, at),
+        ws,
+        st,
+        looping,
+        levels - 1,
+        table,
+    );
     put_post(tree, at, ws, s, opcodes::RETURN, 0, 0)
 }
 
 // counted_loop in the Rust: the count, and the body so often.
-fn repeat(tree: &[u8], at: usize, ws: &mut [u32], st: State, looping: bool, levels: u16) -> State
+fn repeat(
+    tree: &[u8],
+    at: usize,
+    ws: &mut [u32],
+    st: State,
+    looping: bool,
+    levels: u16,
+    table: &[u8; 256],
+) -> State
+    requires { ⌜ HasRules (now table) ⌝ }
     ensures { λ r. ⌜ _≡_ {A = Held} (r, now (ws .exit)) (R.under (now (tree .entry)) levels (R.countedLoop (now (tree .entry))) at looping (st, now (ws .entry))) ⌝ }
 {
     let s = flag(st, Flags::HAS_LOOPS);
@@ -791,17 +1057,26 @@ fn repeat(tree: &[u8], at: usize, ws: &mut [u32], st: State, looping: bool, leve
         return builder::failed(ws, s, refusals::FAILED);
     }
     let a = tree::first_at(tree, at);
-    let t = expr(tree, a, ws, s, looping, levels);
+    let t = expr(tree, a, ws, s, looping, levels, table);
     let e = guard(ws, t, opcodes::LOOP_BEGIN, 0, 0);
     let g = e.state;
     let u = steps::enter_loop(steps::operand(g));
-    let v = expr(tree, tree::next_at(tree, a), ws, u, true, levels);
+    let v = expr(tree, tree::next_at(tree, a), ws, u, true, levels, table);
     let w = control::close_loop(ws, v, e.index);
     let x = steps::leave_loop(pop(w, 1));
     interning::constant(ws, x, values::folded(tree, at, 0))
 }
 
-fn for_each(tree: &[u8], at: usize, ws: &mut [u32], st: State, looping: bool, levels: u16) -> State
+fn for_each(
+    tree: &[u8],
+    at: usize,
+    ws: &mut [u32],
+    st: State,
+    looping: bool,
+    levels: u16,
+    table: &[u8; 256],
+) -> State
+    requires { ⌜ HasRules (now table) ⌝ }
     ensures { λ r. ⌜ _≡_ {A = Held} (r, now (ws .exit)) (R.under (now (tree .entry)) levels (R.forEach (now (tree .entry))) at looping (st, now (ws .entry))) ⌝ }
 {
     let s = not_float_only(flag(st, Flags::HAS_LOOPS));
@@ -813,7 +1088,7 @@ fn for_each(tree: &[u8], at: usize, ws: &mut [u32], st: State, looping: bool, le
     let k = v.index;
     match k {
         EachIndex::Refused => t,
-        _ => each(tree, at, ws, t, k, looping, levels),
+        _ => each(tree, at, ws, t, k, looping, levels, table),
     }
 }
 
@@ -826,17 +1101,19 @@ fn each(
     k: EachIndex,
     looping: bool,
     levels: u16,
+    table: &[u8; 256],
 ) -> State
+    requires { ⌜ HasRules (now table) ⌝ }
     ensures { λ r. ⌜ _≡_ {A = Held} (r, now (ws .exit)) (R.under (now (tree .entry)) levels (R.each (now (tree .entry))) at (eachNext k) looping (st, now (ws .entry))) ⌝ }
 {
     let b = tree::next_at(tree, tree::first_at(tree, at));
-    let s = expr(tree, b, ws, st, looping, levels);
+    let s = expr(tree, b, ws, st, looping, levels, table);
     let e = guard(ws, s, opcodes::EACH_BEGIN, 0, 0);
     let g = e.state;
     let f = control::each_next(ws, g, k);
     let i = f.state;
     let t = steps::enter_loop(i);
-    let u = expr(tree, tree::next_at(tree, b), ws, t, true, levels);
+    let u = expr(tree, tree::next_at(tree, b), ws, t, true, levels, table);
     let v = control::close_each(ws, u, e.index, f.index);
     let w = steps::leave_loop(v);
     interning::constant(ws, w, values::folded(tree, at, 0))

@@ -24,7 +24,7 @@ module _ (t : ℕ) where
   first-at-requires c κs = tt
 
   expr-requires : add-lts.Need-expr-requires (add-claims t) (add-at t) add.Post
-  expr-requires c κs = (omega (arith, c .before .before .before .before .before .before .pre .0), tt)
+  expr-requires c κs = (omega (arith, c .before .before .before .before .before .before .pre .0), c .before .before .before .before .before .before .pre .1)
 
   post-instr-requires : add-lts.Need-post-instr-requires (add-claims t) (add-at t) add.Post
   post-instr-requires c κs = tt
@@ -45,7 +45,7 @@ module _ (t : ℕ) where
   sub-terms c = omega (arith, c .before .before .before .before .before .before .before .before .before .if1 .left, c .before .before .before .if2 .left)
 
   terms-requires : add-lts.Need-terms-requires (add-claims t) (add-at t) add.Post
-  terms-requires c κs = (omega (arith, c .before .before .before .before .before .before .before .before .before .before .before .before .before .pre .0), tt)
+  terms-requires c κs = (omega (arith, c .before .before .before .before .before .before .before .before .before .before .before .before .before .pre .0), c .before .before .before .before .before .before .before .before .before .before .before .before .before .pre .1)
 
   pop-requires : add-lts.Need-pop-requires (add-claims t) (add-at t) add.Post
   pop-requires c κs = tt

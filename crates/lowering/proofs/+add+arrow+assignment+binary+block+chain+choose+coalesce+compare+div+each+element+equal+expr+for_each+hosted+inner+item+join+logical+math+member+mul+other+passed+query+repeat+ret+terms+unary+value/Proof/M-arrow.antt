@@ -33,7 +33,7 @@ module _ (t : ℕ) where
   first-at-requires c κs = tt
 
   expr-requires : arrow-lts.Need-expr-requires (arrow-claims t) (arrow-at t) arrow.Post
-  expr-requires c κs = (omega (arith, c .before .before .before .before .before .before .before .before .before .before .before .before .before .before .pre .0), tt)
+  expr-requires c κs = (omega (arith, c .before .before .before .before .before .before .before .before .before .before .before .before .before .before .pre .0), c .before .before .before .before .before .before .before .before .before .before .before .before .before .before .pre .1)
 
   guard-requires : arrow-lts.Need-guard-requires (arrow-claims t) (arrow-at t) arrow.Post
   guard-requires c κs = tt
@@ -42,7 +42,7 @@ module _ (t : ℕ) where
   next-at-requires c κs = tt
 
   expr-requires-2 : arrow-lts.Need-expr-requires-2 (arrow-claims t) (arrow-at t) arrow.Post
-  expr-requires-2 c κs = (omega (arith, c .before .before .before .before .before .before .before .before .before .before .before .before .before .before .before .before .before .before .before .before .before .before .before .before .pre .0), tt)
+  expr-requires-2 c κs = (omega (arith, c .before .before .before .before .before .before .before .before .before .before .before .before .before .before .before .before .before .before .before .before .before .before .before .before .pre .0), c .before .before .before .before .before .before .before .before .before .before .before .before .before .before .before .before .before .before .before .before .before .before .before .before .pre .1)
 
   instr-requires : arrow-lts.Need-instr-requires (arrow-claims t) (arrow-at t) arrow.Post
   instr-requires c κs = tt

@@ -39,7 +39,7 @@ module _ (t : ℕ) where
   flag-requires c κs = tt
 
   value-requires : assignment-lts.Need-value-requires (assignment-claims t) (assignment-at t) assignment.Post
-  value-requires c κs = (omega (arith, c .before .before .before .before .before .before .before .before .before .pre .0), tt)
+  value-requires c κs = (omega (arith, c .before .before .before .before .before .before .before .before .before .pre .0), c .before .before .before .before .before .before .before .before .before .pre .1)
 
   store-requires : assignment-lts.Need-store-requires (assignment-claims t) (assignment-at t) assignment.Post
   store-requires c κs = tt

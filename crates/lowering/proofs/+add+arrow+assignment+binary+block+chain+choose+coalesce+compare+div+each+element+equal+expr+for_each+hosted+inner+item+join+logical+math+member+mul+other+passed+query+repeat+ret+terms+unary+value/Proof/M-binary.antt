@@ -9,7 +9,7 @@ use Rattle.lowering.proofs.Handlers.{binary-all}
 
 module _ (t : ℕ) where
   expr-requires : binary-lts.Need-expr-requires (binary-claims t) (binary-at t) binary.Post
-  expr-requires c κs = (omega (arith, c .before .before .before .pre .0), tt)
+  expr-requires c κs = (omega (arith, c .before .before .before .pre .0), c .before .before .before .pre .1)
 
   push-requires : binary-lts.Need-push-requires (binary-claims t) (binary-at t) binary.Post
   push-requires c κs = tt
@@ -18,7 +18,7 @@ module _ (t : ℕ) where
   next-at-requires c κs = tt
 
   expr-requires-2 : binary-lts.Need-expr-requires-2 (binary-claims t) (binary-at t) binary.Post
-  expr-requires-2 c κs = (omega (arith, c .before .before .before .before .before .before .before .before .before .pre .0), tt)
+  expr-requires-2 c κs = (omega (arith, c .before .before .before .before .before .before .before .before .before .pre .0), c .before .before .before .before .before .before .before .before .before .pre .1)
 
   same-length : binary-lts.Need-same-length (binary-claims t) (binary-at t) binary.Post
   same-length c = c .before .before .expr2 .kept .1 .1 .0 ∙ c .before .before .before .before .before .before .before .before .expr .kept .1 .1 .0

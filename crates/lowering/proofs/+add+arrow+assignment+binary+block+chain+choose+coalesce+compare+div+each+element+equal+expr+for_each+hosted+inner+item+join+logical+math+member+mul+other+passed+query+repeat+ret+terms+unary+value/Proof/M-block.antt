@@ -12,10 +12,10 @@ use Rattle.lowering.proofs.+add+arrow+assignment+binary+block+chain+cho
 use Rattle.lowering.proofs.Handlers.{statements-on, statements-all, statements-end}
 
 abbrev Inv-loop : block-lts.InvT-loop
-Inv-loop tree at ws₀ looping levels s₀ child₀ left₀ ws s child left = (length ws ≡ length ws₀) × (_≡_ {A = Held} (R.under tree levels (R.statementsFrom tree) (offsetAt tree at) left child looping (s, ws)) (R.under tree levels (R.statementsFrom tree) (offsetAt tree at) left₀ child₀ looping (s₀, ws₀)))
+Inv-loop tree at ws₀ looping levels table s₀ child₀ left₀ ws s child left = (length ws ≡ length ws₀) × (_≡_ {A = Held} (R.under tree levels (R.statementsFrom tree) (offsetAt tree at) left child looping (s, ws)) (R.under tree levels (R.statementsFrom tree) (offsetAt tree at) left₀ child₀ looping (s₀, ws₀)))
 
 abbrev μ-loop : block-lts.MeasureT-loop
-μ-loop tree at ws₀ looping levels s₀ child₀ left₀ ws s child left = left
+μ-loop tree at ws₀ looping levels table s₀ child₀ left₀ ws s child left = left
 
 module _ (t : ℕ) where
   first-at-requires : block-lts.Need-first-at-requires (block-claims t) (block-at t) block.Post Inv-loop μ-loop
@@ -28,7 +28,7 @@ module _ (t : ℕ) where
   loop-holds c = (refl, refl)
 
   item-requires : block-lts.Need-item-requires (block-claims t) (block-at t) block.Post Inv-loop μ-loop
-  item-requires c κs = (omega (arith, c .before .before .before .before .before .before .before .pre .0), tt)
+  item-requires c κs = (omega (arith, c .before .before .before .before .before .before .before .pre .0), c .before .before .before .before .before .before .before .pre .1)
 
   next-at-requires : block-lts.Need-next-at-requires (block-claims t) (block-at t) block.Post Inv-loop μ-loop
   next-at-requires c κs = tt

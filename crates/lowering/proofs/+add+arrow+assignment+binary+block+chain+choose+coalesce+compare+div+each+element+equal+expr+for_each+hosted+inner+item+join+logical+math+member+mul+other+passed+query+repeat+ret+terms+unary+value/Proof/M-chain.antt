@@ -19,10 +19,10 @@ module _ (t : ℕ) where
   returns c = chain-none _ _ _ _ _ _ (c .before .before .before .before .if1 .taken) (c .before .before .failed .ensures)
 
   rule-at-requires : chain-lts.Need-rule-at-requires (chain-claims t) (chain-at t) chain.Post
-  rule-at-requires c κs = tt
+  rule-at-requires c κs = c .before .before .before .pre .1
 
   expr-requires : chain-lts.Need-expr-requires (chain-claims t) (chain-at t) chain.Post
-  expr-requires c κs = (omega (arith, c .before .before .before .before .before .before .pre .0), tt)
+  expr-requires c κs = (omega (arith, c .before .before .before .before .before .before .pre .0), c .before .before .before .before .before .before .pre .1)
 
   same-length-2 : chain-lts.Need-same-length-2 (chain-claims t) (chain-at t) chain.Post
   same-length-2 c = c .before .before .expr .kept .1 .1 .0
@@ -49,7 +49,7 @@ module _ (t : ℕ) where
   sub-chain c = omega (arith, c .before .before .before .before .before .before .if1 .left)
 
   chain-requires : chain-lts.Need-chain-requires (chain-claims t) (chain-at t) chain.Post
-  chain-requires c κs = (omega (arith, c .before .before .before .before .before .before .before .before .before .pre .0, c .before .before .before .before .before .before .if1 .left), tt)
+  chain-requires c κs = (omega (arith, c .before .before .before .before .before .before .before .before .before .pre .0, c .before .before .before .before .before .before .if1 .left), c .before .before .before .before .before .before .before .before .before .pre .1)
 
   member-put-requires : chain-lts.Need-member-put-requires (chain-claims t) (chain-at t) chain.Post
   member-put-requires c κs = tt

@@ -27,13 +27,13 @@ module _ (t : ℕ) where
   next-at-requires c κs = tt
 
   expr-requires : choose-lts.Need-expr-requires (choose-claims t) (choose-at t) choose.Post
-  expr-requires c κs = (omega (arith, c .before .before .before .before .before .before .before .pre .0), tt)
+  expr-requires c κs = (omega (arith, c .before .before .before .before .before .before .before .pre .0), c .before .before .before .before .before .before .before .pre .1)
 
   guard-requires : choose-lts.Need-guard-requires (choose-claims t) (choose-at t) choose.Post
   guard-requires c κs = tt
 
   expr-requires-2 : choose-lts.Need-expr-requires-2 (choose-claims t) (choose-at t) choose.Post
-  expr-requires-2 c κs = (omega (arith, c .before .before .before .before .before .before .before .before .before .before .before .before .before .before .before .before .pre .0), tt)
+  expr-requires-2 c κs = (omega (arith, c .before .before .before .before .before .before .before .before .before .before .before .before .before .before .before .before .pre .0), c .before .before .before .before .before .before .before .before .before .before .before .before .before .before .before .before .pre .1)
 
   guard-requires-2 : choose-lts.Need-guard-requires-2 (choose-claims t) (choose-at t) choose.Post
   guard-requires-2 c κs = tt
@@ -42,7 +42,7 @@ module _ (t : ℕ) where
   land-requires c κs = tt
 
   other-requires : choose-lts.Need-other-requires (choose-claims t) (choose-at t) choose.Post
-  other-requires c κs = (omega (arith, c .before .before .before .before .before .before .before .before .before .before .before .before .before .before .before .before .before .before .before .before .before .before .before .before .before .before .before .before .before .pre .0), tt)
+  other-requires c κs = (omega (arith, c .before .before .before .before .before .before .before .before .before .before .before .before .before .before .before .before .before .before .before .before .before .before .before .before .before .before .before .before .before .pre .0), c .before .before .before .before .before .before .before .before .before .before .before .before .before .before .before .before .before .before .before .before .before .before .before .before .before .before .before .before .before .pre .1)
 
   land-requires-2 : choose-lts.Need-land-requires-2 (choose-claims t) (choose-at t) choose.Post
   land-requires-2 c κs = tt

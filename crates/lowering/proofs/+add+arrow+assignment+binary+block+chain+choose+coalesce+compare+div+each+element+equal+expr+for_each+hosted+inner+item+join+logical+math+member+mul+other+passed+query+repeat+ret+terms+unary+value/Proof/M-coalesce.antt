@@ -30,7 +30,7 @@ module _ (t : ℕ) where
   enter-handler-requires c κs = tt
 
   expr-requires : coalesce-lts.Need-expr-requires (coalesce-claims t) (coalesce-at t) coalesce.Post
-  expr-requires c κs = (omega (arith, c .before .before .before .before .before .before .before .before .before .before .before .before .pre .0), tt)
+  expr-requires c κs = (omega (arith, c .before .before .before .before .before .before .before .before .before .before .before .before .pre .0), c .before .before .before .before .before .before .before .before .before .before .before .before .pre .1)
 
   leave-handler-requires : coalesce-lts.Need-leave-handler-requires (coalesce-claims t) (coalesce-at t) coalesce.Post
   leave-handler-requires c κs = tt
@@ -45,7 +45,7 @@ module _ (t : ℕ) where
   next-at-requires c κs = tt
 
   expr-requires-2 : coalesce-lts.Need-expr-requires-2 (coalesce-claims t) (coalesce-at t) coalesce.Post
-  expr-requires-2 c κs = (omega (arith, c .before .before .before .before .before .before .before .before .before .before .before .before .before .before .before .before .before .before .before .before .before .before .before .before .before .before .before .pre .0), tt)
+  expr-requires-2 c κs = (omega (arith, c .before .before .before .before .before .before .before .before .before .before .before .before .before .before .before .before .before .before .before .before .before .before .before .before .before .before .before .pre .0), c .before .before .before .before .before .before .before .before .before .before .before .before .before .before .before .before .before .before .before .before .before .before .before .before .before .before .before .pre .1)
 
   land-requires-2 : coalesce-lts.Need-land-requires-2 (coalesce-claims t) (coalesce-at t) coalesce.Post
   land-requires-2 c κs = tt

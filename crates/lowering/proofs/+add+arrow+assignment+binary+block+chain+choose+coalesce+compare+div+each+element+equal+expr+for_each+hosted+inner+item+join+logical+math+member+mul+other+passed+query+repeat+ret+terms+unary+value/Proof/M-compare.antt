@@ -27,7 +27,7 @@ module _ (t : ℕ) where
   first-at-requires c κs = tt
 
   expr-requires : compare-lts.Need-expr-requires (compare-claims t) (compare-at t) compare.Post
-  expr-requires c κs = (omega (arith, c .before .before .before .before .before .before .before .before .before .before .before .before .before .pre .0), tt)
+  expr-requires c κs = (omega (arith, c .before .before .before .before .before .before .before .before .before .before .before .before .before .pre .0), c .before .before .before .before .before .before .before .before .before .before .before .before .before .pre .1)
 
   compare-const-requires : compare-lts.Need-compare-const-requires (compare-claims t) (compare-at t) compare.Post
   compare-const-requires c κs = tt
@@ -39,7 +39,7 @@ module _ (t : ℕ) where
   returns-2 c = compare-one _ _ _ _ _ _ _ _ (c .before .before .before .before .before .before .before .before .before .before .before .before .before .before .before .before .before .count-at .ensures) (c .before .before .before .before .before .before .before .before .before .before .before .before .before .before .before .before .if1 .left) (c .before .before .before .before .before .before .before .before .before .before .before .before .before .before .post .ensures) (c .before .before .before .before .before .before .before .before .before .first-at .ensures .0) (c .before .before .before .before .before .before .before .before .if2 .taken) (c .before .before .before .before .before .before .expr .ensures) (c .before .before .compare-const .ensures)
 
   binary-requires : compare-lts.Need-binary-requires (compare-claims t) (compare-at t) compare.Post
-  binary-requires c κs = (omega (arith, c .before .before .before .before .before .before .before .before .before .before .before .before .before .pre .0), tt)
+  binary-requires c κs = (omega (arith, c .before .before .before .before .before .before .before .before .before .before .before .before .before .pre .0), c .before .before .before .before .before .before .before .before .before .before .before .before .before .pre .1)
 
   instr-requires : compare-lts.Need-instr-requires (compare-claims t) (compare-at t) compare.Post
   instr-requires c κs = tt

@@ -27,7 +27,7 @@ module _ (t : ℕ) where
   next-at-requires c κs = tt
 
   expr-requires : div-lts.Need-expr-requires (div-claims t) (div-at t) div.Post
-  expr-requires c κs = (omega (arith, c .before .before .before .before .before .before .before .pre .0), tt)
+  expr-requires c κs = (omega (arith, c .before .before .before .before .before .before .before .pre .0), c .before .before .before .before .before .before .before .pre .1)
 
   divisor-requires : div-lts.Need-divisor-requires (div-claims t) (div-at t) div.Post
   divisor-requires c κs = tt
@@ -39,7 +39,7 @@ module _ (t : ℕ) where
   operand-requires c κs = tt
 
   expr-requires-2 : div-lts.Need-expr-requires-2 (div-claims t) (div-at t) div.Post
-  expr-requires-2 c κs = (omega (arith, c .before .before .before .before .before .before .before .before .before .before .before .before .before .before .before .before .before .before .pre .0), tt)
+  expr-requires-2 c κs = (omega (arith, c .before .before .before .before .before .before .before .before .before .before .before .before .before .before .before .before .before .before .pre .0), c .before .before .before .before .before .before .before .before .before .before .before .before .before .before .before .before .before .before .pre .1)
 
   put-post-requires : div-lts.Need-put-post-requires (div-claims t) (div-at t) div.Post
   put-post-requires c κs = tt

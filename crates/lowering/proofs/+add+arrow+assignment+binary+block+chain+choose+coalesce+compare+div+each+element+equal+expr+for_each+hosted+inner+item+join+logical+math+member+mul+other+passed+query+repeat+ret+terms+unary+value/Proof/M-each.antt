@@ -15,7 +15,7 @@ module _ (t : ℕ) where
   next-at-requires c κs = tt
 
   expr-requires : each-lts.Need-expr-requires (each-claims t) (each-at t) each.Post
-  expr-requires c κs = (omega (arith, c .before .before .before .before .before .pre .0), tt)
+  expr-requires c κs = (omega (arith, c .before .before .before .before .before .pre .0), c .before .before .before .before .before .pre .1)
 
   guard-requires : each-lts.Need-guard-requires (each-claims t) (each-at t) each.Post
   guard-requires c κs = tt
@@ -30,7 +30,7 @@ module _ (t : ℕ) where
   next-at-requires-2 c κs = tt
 
   expr-requires-2 : each-lts.Need-expr-requires-2 (each-claims t) (each-at t) each.Post
-  expr-requires-2 c κs = (omega (arith, c .before .before .before .before .before .before .before .before .before .before .before .before .before .before .before .before .before .before .before .before .before .pre .0), tt)
+  expr-requires-2 c κs = (omega (arith, c .before .before .before .before .before .before .before .before .before .before .before .before .before .before .before .before .before .before .before .before .before .pre .0), c .before .before .before .before .before .before .before .before .before .before .before .before .before .before .before .before .before .before .before .before .before .pre .1)
 
   close-each-requires : each-lts.Need-close-each-requires (each-claims t) (each-at t) each.Post
   close-each-requires c κs = tt

@@ -54,7 +54,7 @@ module _ (t : ℕ) where
   first-at-requires c κs = tt
 
   expr-requires : element-lts.Need-expr-requires (element-claims t) (element-at t) element.Post
-  expr-requires c κs = (omega (arith, c .before .before .before .before .before .before .before .before .before .before .before .before .before .pre .0), tt)
+  expr-requires c κs = (omega (arith, c .before .before .before .before .before .before .before .before .before .before .before .before .before .pre .0), c .before .before .before .before .before .before .before .before .before .before .before .before .before .pre .1)
 
   array-put-requires : element-lts.Need-array-put-requires (element-claims t) (element-at t) element.Post
   array-put-requires c κs = tt

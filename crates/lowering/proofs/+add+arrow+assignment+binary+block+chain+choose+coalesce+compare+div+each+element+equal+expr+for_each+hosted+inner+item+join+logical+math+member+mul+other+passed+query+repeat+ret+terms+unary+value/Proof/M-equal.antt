@@ -27,7 +27,7 @@ module _ (t : ℕ) where
   first-at-requires c κs = tt
 
   expr-requires : equal-lts.Need-expr-requires (equal-claims t) (equal-at t) equal.Post
-  expr-requires c κs = (omega (arith, c .before .before .before .before .before .before .before .before .before .before .before .before .before .pre .0), tt)
+  expr-requires c κs = (omega (arith, c .before .before .before .before .before .before .before .before .before .before .before .before .before .pre .0), c .before .before .before .before .before .before .before .before .before .before .before .before .before .pre .1)
 
   equal-const-requires : equal-lts.Need-equal-const-requires (equal-claims t) (equal-at t) equal.Post
   equal-const-requires c κs = tt
@@ -39,7 +39,7 @@ module _ (t : ℕ) where
   returns-2 c = equal-one _ _ _ _ _ _ _ _ (c .before .before .before .before .before .before .before .before .before .before .before .before .before .before .before .before .before .count-at .ensures) (c .before .before .before .before .before .before .before .before .before .before .before .before .before .before .before .before .if1 .left) (c .before .before .before .before .before .before .before .before .before .before .before .before .before .before .post .ensures) (c .before .before .before .before .before .before .before .before .before .first-at .ensures .0) (c .before .before .before .before .before .before .before .before .if2 .taken) (c .before .before .before .before .before .before .expr .ensures) (c .before .before .equal-const .ensures)
 
   binary-requires : equal-lts.Need-binary-requires (equal-claims t) (equal-at t) equal.Post
-  binary-requires c κs = (omega (arith, c .before .before .before .before .before .before .before .before .before .before .before .before .before .pre .0), tt)
+  binary-requires c κs = (omega (arith, c .before .before .before .before .before .before .before .before .before .before .before .before .before .pre .0), c .before .before .before .before .before .before .before .before .before .before .before .before .before .pre .1)
 
   instr-requires : equal-lts.Need-instr-requires (equal-claims t) (equal-at t) equal.Post
   instr-requires c κs = tt

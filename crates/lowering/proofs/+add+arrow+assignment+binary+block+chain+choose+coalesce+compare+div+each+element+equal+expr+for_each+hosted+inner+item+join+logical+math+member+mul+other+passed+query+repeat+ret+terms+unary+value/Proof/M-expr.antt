@@ -18,91 +18,91 @@ module _ (t : ℕ) where
   returns c = expr-none _ _ _ _ _ (c .before .before .before .before .if1 .taken) (c .before .before .failed .ensures)
 
   rule-at-requires : expr-lts.Need-rule-at-requires (expr-claims t) (expr-at t) expr.Post
-  rule-at-requires c κs = tt
+  rule-at-requires c κs = c .before .before .before .pre .1
 
   sub-n : expr-lts.Need-sub-n (expr-claims t) (expr-at t) expr.Post
   sub-n c = omega (arith, c .before .if1 .left)
 
   element-requires : expr-lts.Need-element-requires (expr-claims t) (expr-at t) expr.Post
-  element-requires c κs = (omega (arith, c .before .before .before .before .before .before .pre .0, c .before .before .before .if1 .left), tt)
+  element-requires c κs = (omega (arith, c .before .before .before .before .before .before .pre .0, c .before .before .before .if1 .left), c .before .before .before .before .before .before .pre .1)
 
   member-requires : expr-lts.Need-member-requires (expr-claims t) (expr-at t) expr.Post
-  member-requires c κs = (omega (arith, c .before .before .before .before .before .before .pre .0, c .before .before .before .if1 .left), tt)
+  member-requires c κs = (omega (arith, c .before .before .before .before .before .before .pre .0, c .before .before .before .if1 .left), c .before .before .before .before .before .before .pre .1)
 
   query-requires : expr-lts.Need-query-requires (expr-claims t) (expr-at t) expr.Post
-  query-requires c κs = (omega (arith, c .before .before .before .before .before .before .pre .0, c .before .before .before .if1 .left), tt)
+  query-requires c κs = (omega (arith, c .before .before .before .before .before .before .pre .0, c .before .before .before .if1 .left), c .before .before .before .before .before .before .pre .1)
 
   compare-requires : expr-lts.Need-compare-requires (expr-claims t) (expr-at t) expr.Post
-  compare-requires c κs = (omega (arith, c .before .before .before .before .before .before .pre .0, c .before .before .before .if1 .left), tt)
+  compare-requires c κs = (omega (arith, c .before .before .before .before .before .before .pre .0, c .before .before .before .if1 .left), c .before .before .before .before .before .before .pre .1)
 
   compare-requires-2 : expr-lts.Need-compare-requires-2 (expr-claims t) (expr-at t) expr.Post
-  compare-requires-2 c κs = (omega (arith, c .before .before .before .before .before .before .pre .0, c .before .before .before .if1 .left), tt)
+  compare-requires-2 c κs = (omega (arith, c .before .before .before .before .before .before .pre .0, c .before .before .before .if1 .left), c .before .before .before .before .before .before .pre .1)
 
   compare-requires-3 : expr-lts.Need-compare-requires-3 (expr-claims t) (expr-at t) expr.Post
-  compare-requires-3 c κs = (omega (arith, c .before .before .before .before .before .before .pre .0, c .before .before .before .if1 .left), tt)
+  compare-requires-3 c κs = (omega (arith, c .before .before .before .before .before .before .pre .0, c .before .before .before .if1 .left), c .before .before .before .before .before .before .pre .1)
 
   compare-requires-4 : expr-lts.Need-compare-requires-4 (expr-claims t) (expr-at t) expr.Post
-  compare-requires-4 c κs = (omega (arith, c .before .before .before .before .before .before .pre .0, c .before .before .before .if1 .left), tt)
+  compare-requires-4 c κs = (omega (arith, c .before .before .before .before .before .before .pre .0, c .before .before .before .if1 .left), c .before .before .before .before .before .before .pre .1)
 
   equal-requires : expr-lts.Need-equal-requires (expr-claims t) (expr-at t) expr.Post
-  equal-requires c κs = (omega (arith, c .before .before .before .before .before .before .pre .0, c .before .before .before .if1 .left), tt)
+  equal-requires c κs = (omega (arith, c .before .before .before .before .before .before .pre .0, c .before .before .before .if1 .left), c .before .before .before .before .before .before .pre .1)
 
   equal-requires-2 : expr-lts.Need-equal-requires-2 (expr-claims t) (expr-at t) expr.Post
-  equal-requires-2 c κs = (omega (arith, c .before .before .before .before .before .before .pre .0, c .before .before .before .if1 .left), tt)
+  equal-requires-2 c κs = (omega (arith, c .before .before .before .before .before .before .pre .0, c .before .before .before .if1 .left), c .before .before .before .before .before .before .pre .1)
 
   logical-requires : expr-lts.Need-logical-requires (expr-claims t) (expr-at t) expr.Post
-  logical-requires c κs = (omega (arith, c .before .before .before .before .before .before .pre .0, c .before .before .before .if1 .left), tt)
+  logical-requires c κs = (omega (arith, c .before .before .before .before .before .before .pre .0, c .before .before .before .if1 .left), c .before .before .before .before .before .before .pre .1)
 
   logical-requires-2 : expr-lts.Need-logical-requires-2 (expr-claims t) (expr-at t) expr.Post
-  logical-requires-2 c κs = (omega (arith, c .before .before .before .before .before .before .pre .0, c .before .before .before .if1 .left), tt)
+  logical-requires-2 c κs = (omega (arith, c .before .before .before .before .before .before .pre .0, c .before .before .before .if1 .left), c .before .before .before .before .before .before .pre .1)
 
   coalesce-requires : expr-lts.Need-coalesce-requires (expr-claims t) (expr-at t) expr.Post
-  coalesce-requires c κs = (omega (arith, c .before .before .before .before .before .before .pre .0, c .before .before .before .if1 .left), tt)
+  coalesce-requires c κs = (omega (arith, c .before .before .before .before .before .before .pre .0, c .before .before .before .if1 .left), c .before .before .before .before .before .before .pre .1)
 
   choose-requires : expr-lts.Need-choose-requires (expr-claims t) (expr-at t) expr.Post
-  choose-requires c κs = (omega (arith, c .before .before .before .before .before .before .pre .0, c .before .before .before .if1 .left), tt)
+  choose-requires c κs = (omega (arith, c .before .before .before .before .before .before .pre .0, c .before .before .before .if1 .left), c .before .before .before .before .before .before .pre .1)
 
   block-requires : expr-lts.Need-block-requires (expr-claims t) (expr-at t) expr.Post
-  block-requires c κs = (omega (arith, c .before .before .before .before .before .before .pre .0, c .before .before .before .if1 .left), tt)
+  block-requires c κs = (omega (arith, c .before .before .before .before .before .before .pre .0, c .before .before .before .if1 .left), c .before .before .before .before .before .before .pre .1)
 
   repeat-requires : expr-lts.Need-repeat-requires (expr-claims t) (expr-at t) expr.Post
-  repeat-requires c κs = (omega (arith, c .before .before .before .before .before .before .pre .0, c .before .before .before .if1 .left), tt)
+  repeat-requires c κs = (omega (arith, c .before .before .before .before .before .before .pre .0, c .before .before .before .if1 .left), c .before .before .before .before .before .before .pre .1)
 
   for-each-requires : expr-lts.Need-for-each-requires (expr-claims t) (expr-at t) expr.Post
-  for-each-requires c κs = (omega (arith, c .before .before .before .before .before .before .pre .0, c .before .before .before .if1 .left), tt)
+  for-each-requires c κs = (omega (arith, c .before .before .before .before .before .before .pre .0, c .before .before .before .if1 .left), c .before .before .before .before .before .before .pre .1)
 
   assignment-requires : expr-lts.Need-assignment-requires (expr-claims t) (expr-at t) expr.Post
-  assignment-requires c κs = (omega (arith, c .before .before .before .before .before .before .pre .0, c .before .before .before .if1 .left), tt)
+  assignment-requires c κs = (omega (arith, c .before .before .before .before .before .before .pre .0, c .before .before .before .if1 .left), c .before .before .before .before .before .before .pre .1)
 
   arrow-requires : expr-lts.Need-arrow-requires (expr-claims t) (expr-at t) expr.Post
-  arrow-requires c κs = (omega (arith, c .before .before .before .before .before .before .pre .0, c .before .before .before .if1 .left), tt)
+  arrow-requires c κs = (omega (arith, c .before .before .before .before .before .before .pre .0, c .before .before .before .if1 .left), c .before .before .before .before .before .before .pre .1)
 
   inner-requires : expr-lts.Need-inner-requires (expr-claims t) (expr-at t) expr.Post
-  inner-requires c κs = (omega (arith, c .before .before .before .before .before .before .pre .0, c .before .before .before .if1 .left), tt)
+  inner-requires c κs = (omega (arith, c .before .before .before .before .before .before .pre .0, c .before .before .before .if1 .left), c .before .before .before .before .before .before .pre .1)
 
   inner-requires-2 : expr-lts.Need-inner-requires-2 (expr-claims t) (expr-at t) expr.Post
-  inner-requires-2 c κs = (omega (arith, c .before .before .before .before .before .before .pre .0, c .before .before .before .if1 .left), tt)
+  inner-requires-2 c κs = (omega (arith, c .before .before .before .before .before .before .pre .0, c .before .before .before .if1 .left), c .before .before .before .before .before .before .pre .1)
 
   unary-requires : expr-lts.Need-unary-requires (expr-claims t) (expr-at t) expr.Post
-  unary-requires c κs = (omega (arith, c .before .before .before .before .before .before .pre .0, c .before .before .before .if1 .left), tt)
+  unary-requires c κs = (omega (arith, c .before .before .before .before .before .before .pre .0, c .before .before .before .if1 .left), c .before .before .before .before .before .before .pre .1)
 
   unary-requires-2 : expr-lts.Need-unary-requires-2 (expr-claims t) (expr-at t) expr.Post
-  unary-requires-2 c κs = (omega (arith, c .before .before .before .before .before .before .pre .0, c .before .before .before .if1 .left), tt)
+  unary-requires-2 c κs = (omega (arith, c .before .before .before .before .before .before .pre .0, c .before .before .before .if1 .left), c .before .before .before .before .before .before .pre .1)
 
   add-requires : expr-lts.Need-add-requires (expr-claims t) (expr-at t) expr.Post
-  add-requires c κs = (omega (arith, c .before .before .before .before .before .before .pre .0, c .before .before .before .if1 .left), tt)
+  add-requires c κs = (omega (arith, c .before .before .before .before .before .before .pre .0, c .before .before .before .if1 .left), c .before .before .before .before .before .before .pre .1)
 
   mul-requires : expr-lts.Need-mul-requires (expr-claims t) (expr-at t) expr.Post
-  mul-requires c κs = (omega (arith, c .before .before .before .before .before .before .pre .0, c .before .before .before .if1 .left), tt)
+  mul-requires c κs = (omega (arith, c .before .before .before .before .before .before .pre .0, c .before .before .before .if1 .left), c .before .before .before .before .before .before .pre .1)
 
   div-requires : expr-lts.Need-div-requires (expr-claims t) (expr-at t) expr.Post
-  div-requires c κs = (omega (arith, c .before .before .before .before .before .before .pre .0, c .before .before .before .if1 .left), tt)
+  div-requires c κs = (omega (arith, c .before .before .before .before .before .before .pre .0, c .before .before .before .if1 .left), c .before .before .before .before .before .before .pre .1)
 
   math-requires : expr-lts.Need-math-requires (expr-claims t) (expr-at t) expr.Post
-  math-requires c κs = (omega (arith, c .before .before .before .before .before .before .pre .0, c .before .before .before .if1 .left), tt)
+  math-requires c κs = (omega (arith, c .before .before .before .before .before .before .pre .0, c .before .before .before .if1 .left), c .before .before .before .before .before .before .pre .1)
 
   math-requires-2 : expr-lts.Need-math-requires-2 (expr-claims t) (expr-at t) expr.Post
-  math-requires-2 c κs = (omega (arith, c .before .before .before .before .before .before .pre .0, c .before .before .before .if1 .left), tt)
+  math-requires-2 c κs = (omega (arith, c .before .before .before .before .before .before .pre .0, c .before .before .before .if1 .left), c .before .before .before .before .before .before .pre .1)
 
   leaf-requires : expr-lts.Need-leaf-requires (expr-claims t) (expr-at t) expr.Post
   leaf-requires c κs = tt

@@ -36,7 +36,7 @@ module _ (t : ℕ) where
   enum-told c = c .match .keys1
 
   each-requires : for-each-lts.Need-each-requires (for-each-claims t) (for-each-at t) for-each.Post
-  each-requires c κs = (omega (arith, c .before .before .before .before .before .before .before .before .before .before .before .before .before .before .pre .0), tt)
+  each-requires c κs = (omega (arith, c .before .before .before .before .before .before .before .before .before .before .before .before .before .before .pre .0), c .before .before .before .before .before .before .before .before .before .before .before .before .before .before .pre .1)
 
   same-length-2 : for-each-lts.Need-same-length-2 (for-each-claims t) (for-each-at t) for-each.Post
   same-length-2 c = c .before .before .before .before .before .variable .kept .1 .1 .0

@@ -11,10 +11,10 @@ use Rattle.lowering.proofs.+add+arrow+assignment+binary+block+chain+cho
 use Rattle.lowering.proofs.Handlers.{hosted-on, hosted-all, hosted-end}
 
 abbrev Inv-loop : hosted-lts.InvT-loop
-Inv-loop tree at ws₀ f k m looping levels s₀ argument₀ left₀ ws s argument left = (length ws ≡ length ws₀) × (_≡_ {A = Held} (R.under tree levels (R.hosted tree) at f k left argument looping (s, ws)) (R.under tree levels (R.hosted tree) at f k m argument₀ looping (s₀, ws₀)))
+Inv-loop tree at ws₀ f k m looping levels table s₀ argument₀ left₀ ws s argument left = (length ws ≡ length ws₀) × (_≡_ {A = Held} (R.under tree levels (R.hosted tree) at f k left argument looping (s, ws)) (R.under tree levels (R.hosted tree) at f k m argument₀ looping (s₀, ws₀)))
 
 abbrev μ-loop : hosted-lts.MeasureT-loop
-μ-loop tree at ws₀ f k m looping levels s₀ argument₀ left₀ ws s argument left = left
+μ-loop tree at ws₀ f k m looping levels table s₀ argument₀ left₀ ws s argument left = left
 
 module _ (t : ℕ) where
   first-at-requires : hosted-lts.Need-first-at-requires (hosted-claims t) (hosted-at t) hosted.Post Inv-loop μ-loop
@@ -24,7 +24,7 @@ module _ (t : ℕ) where
   loop-holds c = (refl, refl)
 
   expr-requires : hosted-lts.Need-expr-requires (hosted-claims t) (hosted-at t) hosted.Post Inv-loop μ-loop
-  expr-requires c κs = (omega (arith, c .before .before .before .before .before .before .pre .0), tt)
+  expr-requires c κs = (omega (arith, c .before .before .before .before .before .before .pre .0), c .before .before .before .before .before .before .pre .1)
 
   push-requires : hosted-lts.Need-push-requires (hosted-claims t) (hosted-at t) hosted.Post Inv-loop μ-loop
   push-requires c κs = tt
@@ -42,7 +42,7 @@ module _ (t : ℕ) where
   loop-again c = (c .before .before .before .before .expr .kept .1 .1 .0 ∙ c .before .before .before .before .before .before .before .loop .inv .0, hosted-on _ _ _ _ _ _ _ _ _ _ _ (c .before .before .before .before .before .before .loop-test .taken) (c .before .before .before .before .expr .ensures) (c .before .push .ensures) (c .next-at .ensures .0) (c .before .before .before .before .before .before .before .loop .inv .1))
 
   expr-requires-2 : hosted-lts.Need-expr-requires-2 (hosted-claims t) (hosted-at t) hosted.Post Inv-loop μ-loop
-  expr-requires-2 c κs = (omega (arith, c .before .before .before .before .before .before .pre .0), tt)
+  expr-requires-2 c κs = (omega (arith, c .before .before .before .before .before .before .pre .0), c .before .before .before .before .before .before .pre .1)
 
   put-post-requires : hosted-lts.Need-put-post-requires (hosted-claims t) (hosted-at t) hosted.Post Inv-loop μ-loop
   put-post-requires c κs = tt

@@ -23,7 +23,7 @@ module _ (t : ℕ) where
   first-at-requires c κs = tt
 
   expr-requires : inner-lts.Need-expr-requires (inner-claims t) (inner-at t) inner.Post
-  expr-requires c κs = (omega (arith, c .before .before .before .before .before .before .pre .0), tt)
+  expr-requires c κs = (omega (arith, c .before .before .before .before .before .before .pre .0), c .before .before .before .before .before .before .pre .1)
 
   same-length-2 : inner-lts.Need-same-length-2 (inner-claims t) (inner-at t) inner.Post
   same-length-2 c = c .before .before .expr .kept .1 .1 .0

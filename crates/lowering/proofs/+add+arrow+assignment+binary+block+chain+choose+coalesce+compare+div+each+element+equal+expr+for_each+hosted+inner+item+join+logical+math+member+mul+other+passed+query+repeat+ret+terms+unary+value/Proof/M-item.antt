@@ -8,10 +8,10 @@ use Rattle.lowering.proofs.Handlers.{statement-ret, statement-all}
 
 module _ (t : ℕ) where
   rule-at-requires : item-lts.Need-rule-at-requires (item-claims t) (item-at t) item.Post
-  rule-at-requires c κs = tt
+  rule-at-requires c κs = c .before .before .pre .1
 
   ret-requires : item-lts.Need-ret-requires (item-claims t) (item-at t) item.Post
-  ret-requires c κs = (omega (arith, c .before .before .before .before .before .pre .0), tt)
+  ret-requires c κs = (omega (arith, c .before .before .before .before .before .pre .0), c .before .before .before .before .before .pre .1)
 
   same-length : item-lts.Need-same-length (item-claims t) (item-at t) item.Post
   same-length c = c .before .before .ret .kept .1 .1 .0
@@ -20,7 +20,7 @@ module _ (t : ℕ) where
   returns c = statement-ret _ _ _ _ _ _ _ (c .before .before .before .before .before .rule-at .ensures) (c .before .before .before .before .if1 .taken) (c .before .before .ret .ensures)
 
   expr-requires : item-lts.Need-expr-requires (item-claims t) (item-at t) item.Post
-  expr-requires c κs = (omega (arith, c .before .before .before .before .before .pre .0), tt)
+  expr-requires c κs = (omega (arith, c .before .before .before .before .before .pre .0), c .before .before .before .before .before .pre .1)
 
   same-length-2 : item-lts.Need-same-length-2 (item-claims t) (item-at t) item.Post
   same-length-2 c = c .before .before .expr .kept .1 .1 .0

@@ -9,7 +9,7 @@ use Rattle.lowering.proofs.Handlers.{junction-end, junction-on}
 
 module _ (t : ℕ) where
   expr-requires : join-lts.Need-expr-requires (join-claims t) (join-at t) join.Post
-  expr-requires c κs = (omega (arith, c .before .before .before .pre .0), tt)
+  expr-requires c κs = (omega (arith, c .before .before .before .pre .0), c .before .before .before .pre .1)
 
   instr-requires : join-lts.Need-instr-requires (join-claims t) (join-at t) join.Post
   instr-requires c κs = tt
@@ -30,7 +30,7 @@ module _ (t : ℕ) where
   sub-join c = omega (arith, c .before .before .before .before .before .before .before .if1 .left)
 
   join-requires : join-lts.Need-join-requires (join-claims t) (join-at t) join.Post
-  join-requires c κs = (omega (arith, c .before .before .before .before .before .before .before .before .before .before .before .before .before .before .pre .0, c .before .before .before .before .before .before .before .if1 .left), tt)
+  join-requires c κs = (omega (arith, c .before .before .before .before .before .before .before .before .before .before .before .before .before .before .pre .0, c .before .before .before .before .before .before .before .if1 .left), c .before .before .before .before .before .before .before .before .before .before .before .before .before .before .pre .1)
 
   land-requires : join-lts.Need-land-requires (join-claims t) (join-at t) join.Post
   land-requires c κs = tt

@@ -30,7 +30,7 @@ module _ (t : ℕ) where
   sub-join c = omega (arith, c .before .before .before .before .before .before .before .before .if1 .left)
 
   join-requires : logical-lts.Need-join-requires (logical-claims t) (logical-at t) logical.Post
-  join-requires c κs = (omega (arith, c .before .before .before .before .before .before .before .before .before .before .before .before .pre .0, c .before .before .before .before .before .before .before .before .before .count-at .ok, c .before .before .before .before .before .before .before .before .if1 .left), tt)
+  join-requires c κs = (omega (arith, c .before .before .before .before .before .before .before .before .before .before .before .before .pre .0, c .before .before .before .before .before .before .before .before .before .count-at .ok, c .before .before .before .before .before .before .before .before .if1 .left), c .before .before .before .before .before .before .before .before .before .before .before .before .pre .1)
 
   same-length-2 : logical-lts.Need-same-length-2 (logical-claims t) (logical-at t) logical.Post
   same-length-2 c = c .before .before .join .kept .1 .1 .0 ∙ c .before .before .before .before .before .before .before .before .before .post .kept .1 .1 .0

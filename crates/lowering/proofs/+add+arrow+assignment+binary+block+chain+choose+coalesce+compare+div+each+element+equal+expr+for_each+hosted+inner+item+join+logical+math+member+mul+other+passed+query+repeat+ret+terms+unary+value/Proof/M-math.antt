@@ -53,7 +53,7 @@ module _ (t : ℕ) where
   sub-hosted c = omega (arith, c .before .before .if1 .left)
 
   hosted-requires : math-lts.Need-hosted-requires (math-claims t) (math-at t) math.Post
-  hosted-requires c κs = (omega (arith, c .before .before .before .before .before .before .before .before .before .before .before .pre .0), tt)
+  hosted-requires c κs = (omega (arith, c .before .before .before .before .before .before .before .before .before .before .before .pre .0), c .before .before .before .before .before .before .before .before .before .before .before .pre .1)
 
   sub-pop : math-lts.Need-sub-pop (math-claims t) (math-at t) math.Post
   sub-pop c = omega (arith, c .before .before .before .before .before .if1 .left)

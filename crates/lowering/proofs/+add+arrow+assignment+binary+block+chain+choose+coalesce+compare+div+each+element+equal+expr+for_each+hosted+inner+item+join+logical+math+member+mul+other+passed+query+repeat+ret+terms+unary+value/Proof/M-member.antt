@@ -45,7 +45,7 @@ module _ (t : ℕ) where
   first-at-requires c κs = tt
 
   chain-requires : member-lts.Need-chain-requires (member-claims t) (member-at t) member.Post
-  chain-requires c κs = (omega (arith, c .before .before .before .before .before .before .before .before .before .before .before .before .pre .0), tt)
+  chain-requires c κs = (omega (arith, c .before .before .before .before .before .before .before .before .before .before .before .before .pre .0), c .before .before .before .before .before .before .before .before .before .before .before .before .pre .1)
 
   member-put-requires : member-lts.Need-member-put-requires (member-claims t) (member-at t) member.Post
   member-put-requires c κs = tt

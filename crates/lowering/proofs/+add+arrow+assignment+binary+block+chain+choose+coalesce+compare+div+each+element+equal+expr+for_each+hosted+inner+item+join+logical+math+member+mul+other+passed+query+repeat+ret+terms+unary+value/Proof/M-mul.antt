@@ -24,7 +24,7 @@ module _ (t : ℕ) where
   first-at-requires c κs = tt
 
   binary-requires : mul-lts.Need-binary-requires (mul-claims t) (mul-at t) mul.Post
-  binary-requires c κs = (omega (arith, c .before .before .before .before .before .before .pre .0), tt)
+  binary-requires c κs = (omega (arith, c .before .before .before .before .before .before .pre .0), c .before .before .before .before .before .before .pre .1)
 
   put-post-requires : mul-lts.Need-put-post-requires (mul-claims t) (mul-at t) mul.Post
   put-post-requires c κs = tt

@@ -23,7 +23,7 @@ module _ (t : ℕ) where
   next-at-requires c κs = tt
 
   expr-requires : other-lts.Need-expr-requires (other-claims t) (other-at t) other.Post
-  expr-requires c κs = (omega (arith, c .before .before .before .before .before .before .pre .0), tt)
+  expr-requires c κs = (omega (arith, c .before .before .before .before .before .before .pre .0), c .before .before .before .before .before .before .pre .1)
 
   same-length-2 : other-lts.Need-same-length-2 (other-claims t) (other-at t) other.Post
   same-length-2 c = c .before .before .expr .kept .1 .1 .0

@@ -11,10 +11,10 @@ use Rattle.lowering.proofs.+add+arrow+assignment+binary+block+chain+cho
 use Rattle.lowering.proofs.Handlers.{arguments-on, arguments-end}
 
 abbrev Inv-loop : passed-lts.InvT-loop
-Inv-loop tree ws₀ a m first levels base waiting s₀ argument₀ left₀ slot₀ ws s argument left slot = (length ws ≡ length ws₀) × (_≡_ {A = Held} (R.under tree levels (R.arguments tree) base waiting left argument slot (s, ws)) (R.under tree levels (R.arguments tree) base waiting m a first (s₀, ws₀)))
+Inv-loop tree ws₀ a m first levels table base waiting s₀ argument₀ left₀ slot₀ ws s argument left slot = (length ws ≡ length ws₀) × (_≡_ {A = Held} (R.under tree levels (R.arguments tree) base waiting left argument slot (s, ws)) (R.under tree levels (R.arguments tree) base waiting m a first (s₀, ws₀)))
 
 abbrev μ-loop : passed-lts.MeasureT-loop
-μ-loop tree ws₀ a m first levels base waiting s₀ argument₀ left₀ slot₀ ws s argument left slot = left
+μ-loop tree ws₀ a m first levels table base waiting s₀ argument₀ left₀ slot₀ ws s argument left slot = left
 
 module _ (t : ℕ) where
   loop-holds : passed-lts.Need-loop-holds (passed-claims t) (passed-at t) passed.Post Inv-loop μ-loop
@@ -24,7 +24,7 @@ module _ (t : ℕ) where
   open-segment-requires c κs = tt
 
   expr-requires : passed-lts.Need-expr-requires (passed-claims t) (passed-at t) passed.Post Inv-loop μ-loop
-  expr-requires c κs = (omega (arith, c .before .before .before .before .before .before .pre .0), tt)
+  expr-requires c κs = (omega (arith, c .before .before .before .before .before .before .pre .0), c .before .before .before .before .before .before .pre .1)
 
   end-argument-requires : passed-lts.Need-end-argument-requires (passed-claims t) (passed-at t) passed.Post Inv-loop μ-loop
   end-argument-requires c κs = tt

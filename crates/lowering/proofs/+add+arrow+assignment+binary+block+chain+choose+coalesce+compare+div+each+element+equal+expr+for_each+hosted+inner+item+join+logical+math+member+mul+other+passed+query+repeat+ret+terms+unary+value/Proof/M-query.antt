@@ -37,7 +37,7 @@ module _ (t : ℕ) where
   first-at-requires c κs = tt
 
   passed-requires : query-lts.Need-passed-requires (query-claims t) (query-at t) query.Post
-  passed-requires c κs = (omega (arith, c .before .before .before .before .before .before .before .before .before .before .before .before .before .before .before .pre .0), tt)
+  passed-requires c κs = (omega (arith, c .before .before .before .before .before .before .before .before .before .before .before .before .before .before .before .pre .0), c .before .before .before .before .before .before .before .before .before .before .before .before .before .before .before .pre .1)
 
   cast-put-post : query-lts.Need-cast-put-post (query-claims t) (query-at t) query.Post
   cast-put-post c = search needs

@@ -27,7 +27,7 @@ module _ (t : ℕ) where
   first-at-requires c κs = tt
 
   expr-requires : repeat-lts.Need-expr-requires (repeat-claims t) (repeat-at t) repeat.Post
-  expr-requires c κs = (omega (arith, c .before .before .before .before .before .before .before .pre .0), tt)
+  expr-requires c κs = (omega (arith, c .before .before .before .before .before .before .before .pre .0), c .before .before .before .before .before .before .before .pre .1)
 
   guard-requires : repeat-lts.Need-guard-requires (repeat-claims t) (repeat-at t) repeat.Post
   guard-requires c κs = tt
@@ -42,7 +42,7 @@ module _ (t : ℕ) where
   next-at-requires c κs = tt
 
   expr-requires-2 : repeat-lts.Need-expr-requires-2 (repeat-claims t) (repeat-at t) repeat.Post
-  expr-requires-2 c κs = (omega (arith, c .before .before .before .before .before .before .before .before .before .before .before .before .before .before .before .before .before .before .before .pre .0), tt)
+  expr-requires-2 c κs = (omega (arith, c .before .before .before .before .before .before .before .before .before .before .before .before .before .before .before .before .before .before .before .pre .0), c .before .before .before .before .before .before .before .before .before .before .before .before .before .before .before .before .before .before .before .pre .1)
 
   close-loop-requires : repeat-lts.Need-close-loop-requires (repeat-claims t) (repeat-at t) repeat.Post
   close-loop-requires c κs = tt

@@ -40,7 +40,7 @@ module _ (t : ℕ) where
   sub-expr c = omega (arith, c .before .before .before .before .if1 .left)
 
   expr-requires : ret-lts.Need-expr-requires (ret-claims t) (ret-at t) ret.Post
-  expr-requires c κs = (omega (arith, c .before .before .before .before .before .before .before .pre .0, c .before .before .before .before .if1 .left), tt)
+  expr-requires c κs = (omega (arith, c .before .before .before .before .before .before .before .pre .0, c .before .before .before .before .if1 .left), c .before .before .before .before .before .before .before .pre .1)
 
   put-post-requires-2 : ret-lts.Need-put-post-requires-2 (ret-claims t) (ret-at t) ret.Post
   put-post-requires-2 c κs = tt

@@ -11,17 +11,17 @@ use Rattle.lowering.proofs.+add+arrow+assignment+binary+block+chain+cho
 use Rattle.lowering.proofs.Handlers.{addition-on, addition-end}
 
 abbrev Inv-loop : terms-lts.InvT-loop
-Inv-loop tree at ws₀ a m looping levels s₀ term₀ left₀ ws s term left = (length ws ≡ length ws₀) × (_≡_ {A = Held} (R.under tree levels (R.addition tree) at left term looping (s, ws)) (R.under tree levels (R.addition tree) at m a looping (s₀, ws₀)))
+Inv-loop tree at ws₀ a m looping levels table s₀ term₀ left₀ ws s term left = (length ws ≡ length ws₀) × (_≡_ {A = Held} (R.under tree levels (R.addition tree) at left term looping (s, ws)) (R.under tree levels (R.addition tree) at m a looping (s₀, ws₀)))
 
 abbrev μ-loop : terms-lts.MeasureT-loop
-μ-loop tree at ws₀ a m looping levels s₀ term₀ left₀ ws s term left = left
+μ-loop tree at ws₀ a m looping levels table s₀ term₀ left₀ ws s term left = left
 
 module _ (t : ℕ) where
   loop-holds : terms-lts.Need-loop-holds (terms-claims t) (terms-at t) terms.Post Inv-loop μ-loop
   loop-holds c = (refl, refl)
 
   expr-requires : terms-lts.Need-expr-requires (terms-claims t) (terms-at t) terms.Post Inv-loop μ-loop
-  expr-requires c κs = (omega (arith, c .before .before .before .before .before .pre .0), tt)
+  expr-requires c κs = (omega (arith, c .before .before .before .before .before .pre .0), c .before .before .before .before .before .pre .1)
 
   instr-requires : terms-lts.Need-instr-requires (terms-claims t) (terms-at t) terms.Post Inv-loop μ-loop
   instr-requires c κs = tt
@@ -39,7 +39,7 @@ module _ (t : ℕ) where
   loop-again c = (c .before .before .before .instr .kept .0 ∙ c .before .before .before .before .before .before .before .expr .kept .1 .1 .0 ∙ c .before .before .before .before .before .before .before .before .before .before .loop .inv .0, addition-on _ _ _ _ _ _ _ _ _ (c .before .before .before .before .before .before .before .before .before .loop-test .taken) (c .before .before .before .before .before .before .before .expr .ensures) (c .before .before .before .instr .ensures) (c .next-at .ensures .0) (c .before .before .before .before .before .before .before .before .before .before .loop .inv .1))
 
   expr-requires-2 : terms-lts.Need-expr-requires-2 (terms-claims t) (terms-at t) terms.Post Inv-loop μ-loop
-  expr-requires-2 c κs = (omega (arith, c .before .before .before .before .before .pre .0), tt)
+  expr-requires-2 c κs = (omega (arith, c .before .before .before .before .before .pre .0), c .before .before .before .before .before .pre .1)
 
   put-post-requires : terms-lts.Need-put-post-requires (terms-claims t) (terms-at t) terms.Post Inv-loop μ-loop
   put-post-requires c κs = tt

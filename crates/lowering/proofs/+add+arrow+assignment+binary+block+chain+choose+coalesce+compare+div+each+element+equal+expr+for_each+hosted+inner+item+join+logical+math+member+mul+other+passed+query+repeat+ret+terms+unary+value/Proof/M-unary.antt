@@ -24,7 +24,7 @@ module _ (t : ℕ) where
   first-at-requires c κs = tt
 
   expr-requires : unary-lts.Need-expr-requires (unary-claims t) (unary-at t) unary.Post
-  expr-requires c κs = (omega (arith, c .before .before .before .before .before .before .pre .0), tt)
+  expr-requires c κs = (omega (arith, c .before .before .before .before .before .before .pre .0), c .before .before .before .before .before .before .pre .1)
 
   put-post-requires : unary-lts.Need-put-post-requires (unary-claims t) (unary-at t) unary.Post
   put-post-requires c κs = tt

@@ -29,7 +29,7 @@ module _ (t : ℕ) where
   next-at-requires c κs = tt
 
   expr-requires : value-lts.Need-expr-requires (value-claims t) (value-at t) value.Post
-  expr-requires c κs = (omega (arith, c .before .before .before .before .before .before .pre .0), tt)
+  expr-requires c κs = (omega (arith, c .before .before .before .before .before .before .pre .0), c .before .before .before .before .before .before .pre .1)
 
   same-length-2 : value-lts.Need-same-length-2 (value-claims t) (value-at t) value.Post
   same-length-2 c = c .before .before .expr .kept .1 .1 .0

@@ -100,7 +100,7 @@ use Rattle.lowering.proofs.interning.constant.Reads as constant-reads
 use Rattle.builder.proofs.push.Reads as push-reads
 use Rattle.builder.proofs.segments.open_segment.Reads as open-segment-reads
 use Rattle.workspace.proofs.counts.one_more.Reads as one-more-reads
-use Rattle.lowering.proofs.assign.rule_at.Reads as rule-at-reads
+use Rattle.lowering.proofs.rules.rule_at.Reads as rule-at-reads
 use Rattle.lowering.proofs.assign.store.Reads as store-reads
 use Rattle.lowering.proofs.assign.target_refusal.Reads as target-refusal-reads
 use Rattle.lowering.proofs.calls.begin_call.Reads as begin-call-reads
@@ -139,284 +139,284 @@ use Rattle.lowering.proofs.values.list_constant.Reads as list-constant-
 use Rattle.payload.proofs.payload_at.Reads as payload-at-reads
 use Rattle.wire.proofs.get_u8.Reads as get-u8-reads
 
-abbrev pub μ-add : Measures 2 add-kinds.ps ℕ
+abbrev pub μ-add : Measures 3 add-kinds.ps ℕ
 μ-add κs a = 200000 * a .1 .1 .1 .1 .1 .0 + 80000
 
-abbrev pub μ-arrow : Measures 2 arrow-kinds.ps ℕ
+abbrev pub μ-arrow : Measures 3 arrow-kinds.ps ℕ
 μ-arrow κs a = 200000 * a .1 .1 .1 .1 .1 .0 + 80000
 
-abbrev pub μ-assignment : Measures 2 assignment-kinds.ps ℕ
+abbrev pub μ-assignment : Measures 3 assignment-kinds.ps ℕ
 μ-assignment κs a = 200000 * a .1 .1 .1 .1 .1 .0 + 80000
 
-abbrev pub μ-binary : Measures 2 binary-kinds.ps ℕ
+abbrev pub μ-binary : Measures 3 binary-kinds.ps ℕ
 μ-binary κs a = 200000 * a .1 .1 .1 .1 .1 .0 + 70000
 
-abbrev pub μ-block : Measures 2 block-kinds.ps ℕ
+abbrev pub μ-block : Measures 3 block-kinds.ps ℕ
 μ-block κs a = 200000 * a .1 .1 .1 .1 .1 .0 + 80000
 
-abbrev pub μ-chain : Measures 2 chain-kinds.ps ℕ
+abbrev pub μ-chain : Measures 3 chain-kinds.ps ℕ
 μ-chain κs a = 200000 * a .1 .1 .1 .1 .1 .1 .0 + 1
 
-abbrev pub μ-choose : Measures 2 choose-kinds.ps ℕ
+abbrev pub μ-choose : Measures 3 choose-kinds.ps ℕ
 μ-choose κs a = 200000 * a .1 .1 .1 .1 .1 .0 + 80000
 
-abbrev pub μ-coalesce : Measures 2 coalesce-kinds.ps ℕ
+abbrev pub μ-coalesce : Measures 3 coalesce-kinds.ps ℕ
 μ-coalesce κs a = 200000 * a .1 .1 .1 .1 .1 .0 + 80000
 
-abbrev pub μ-compare : Measures 2 compare-kinds.ps ℕ
+abbrev pub μ-compare : Measures 3 compare-kinds.ps ℕ
 μ-compare κs a = 200000 * a .1 .1 .1 .1 .1 .1 .0 + 80000
 
-abbrev pub μ-div : Measures 2 div-kinds.ps ℕ
+abbrev pub μ-div : Measures 3 div-kinds.ps ℕ
 μ-div κs a = 200000 * a .1 .1 .1 .1 .1 .0 + 80000
 
-abbrev pub μ-each : Measures 2 each-kinds.ps ℕ
+abbrev pub μ-each : Measures 3 each-kinds.ps ℕ
 μ-each κs a = 200000 * a .1 .1 .1 .1 .1 .1 .0 + 70000
 
-abbrev pub μ-element : Measures 2 element-kinds.ps ℕ
+abbrev pub μ-element : Measures 3 element-kinds.ps ℕ
 μ-element κs a = 200000 * a .1 .1 .1 .1 .1 .0 + 80000
 
-abbrev pub μ-equal : Measures 2 equal-kinds.ps ℕ
+abbrev pub μ-equal : Measures 3 equal-kinds.ps ℕ
 μ-equal κs a = 200000 * a .1 .1 .1 .1 .1 .1 .0 + 80000
 
-abbrev pub μ-expr : Measures 2 expr-kinds.ps ℕ
+abbrev pub μ-expr : Measures 3 expr-kinds.ps ℕ
 μ-expr κs a = 200000 * a .1 .1 .1 .1 .1 .0
 
-abbrev pub μ-for-each : Measures 2 for-each-kinds.ps ℕ
+abbrev pub μ-for-each : Measures 3 for-each-kinds.ps ℕ
 μ-for-each κs a = 200000 * a .1 .1 .1 .1 .1 .0 + 80000
 
-abbrev pub μ-hosted : Measures 2 hosted-kinds.ps ℕ
+abbrev pub μ-hosted : Measures 3 hosted-kinds.ps ℕ
 μ-hosted κs a = 200000 * a .1 .1 .1 .1 .1 .1 .1 .1 .0 + 70000
 
-abbrev pub μ-inner : Measures 2 inner-kinds.ps ℕ
+abbrev pub μ-inner : Measures 3 inner-kinds.ps ℕ
 μ-inner κs a = 200000 * a .1 .1 .1 .1 .1 .0 + 80000
 
-abbrev pub μ-item : Measures 2 item-kinds.ps ℕ
+abbrev pub μ-item : Measures 3 item-kinds.ps ℕ
 μ-item κs a = 200000 * a .1 .1 .1 .1 .1 .0 + 70001
 
-abbrev pub μ-join : Measures 2 join-kinds.ps ℕ
+abbrev pub μ-join : Measures 3 join-kinds.ps ℕ
 μ-join κs a = 200000 * a .1 .1 .1 .1 .1 .1 .1 .1 .1 .0 + 2 + a .1 .1 .1 .1 .1 .1 .1 .0
 
-abbrev pub μ-logical : Measures 2 logical-kinds.ps ℕ
+abbrev pub μ-logical : Measures 3 logical-kinds.ps ℕ
 μ-logical κs a = 200000 * a .1 .1 .1 .1 .1 .1 .1 .0 + 80000
 
-abbrev pub μ-math : Measures 2 math-kinds.ps ℕ
+abbrev pub μ-math : Measures 3 math-kinds.ps ℕ
 μ-math κs a = 200000 * a .1 .1 .1 .1 .1 .1 .0 + 80000
 
-abbrev pub μ-member : Measures 2 member-kinds.ps ℕ
+abbrev pub μ-member : Measures 3 member-kinds.ps ℕ
 μ-member κs a = 200000 * a .1 .1 .1 .1 .1 .0 + 80000
 
-abbrev pub μ-mul : Measures 2 mul-kinds.ps ℕ
+abbrev pub μ-mul : Measures 3 mul-kinds.ps ℕ
 μ-mul κs a = 200000 * a .1 .1 .1 .1 .1 .0 + 80000
 
-abbrev pub μ-other : Measures 2 other-kinds.ps ℕ
+abbrev pub μ-other : Measures 3 other-kinds.ps ℕ
 μ-other κs a = 200000 * a .1 .1 .1 .1 .1 .1 .0 + 70000
 
-abbrev pub μ-passed : Measures 2 passed-kinds.ps ℕ
+abbrev pub μ-passed : Measures 3 passed-kinds.ps ℕ
 μ-passed κs a = 200000 * a .1 .1 .1 .1 .1 .1 .0 + 70000
 
-abbrev pub μ-query : Measures 2 query-kinds.ps ℕ
+abbrev pub μ-query : Measures 3 query-kinds.ps ℕ
 μ-query κs a = 200000 * a .1 .1 .1 .1 .0 + 80000
 
-abbrev pub μ-repeat : Measures 2 repeat-kinds.ps ℕ
+abbrev pub μ-repeat : Measures 3 repeat-kinds.ps ℕ
 μ-repeat κs a = 200000 * a .1 .1 .1 .1 .1 .0 + 80000
 
-abbrev pub μ-ret : Measures 2 ret-kinds.ps ℕ
+abbrev pub μ-ret : Measures 3 ret-kinds.ps ℕ
 μ-ret κs a = 200000 * a .1 .1 .1 .1 .1 .0 + 70000
 
-abbrev pub μ-terms : Measures 2 terms-kinds.ps ℕ
+abbrev pub μ-terms : Measures 3 terms-kinds.ps ℕ
 μ-terms κs a = 200000 * a .1 .1 .1 .1 .1 .1 .1 .0 + 70000
 
-abbrev pub μ-unary : Measures 2 unary-kinds.ps ℕ
+abbrev pub μ-unary : Measures 3 unary-kinds.ps ℕ
 μ-unary κs a = 200000 * a .1 .1 .1 .1 .1 .1 .0 + 80000
 
-abbrev pub μ-value : Measures 2 value-kinds.ps ℕ
+abbrev pub μ-value : Measures 3 value-kinds.ps ℕ
 μ-value κs a = 200000 * a .1 .1 .1 .1 .1 .1 .0 + 70000
 
-abbrev pub add-at : ℕ → In 2 add-kinds.ps
-add-at t = and 2 add-kinds.ps (is 2 add-kinds.ps μ-add t) add.Pre
+abbrev pub add-at : ℕ → In 3 add-kinds.ps
+add-at t = and 3 add-kinds.ps (is 3 add-kinds.ps μ-add t) add.Pre
 
-abbrev pub add-below : ℕ → In 2 add-kinds.ps
-add-below t = and 2 add-kinds.ps (falls 2 add-kinds.ps _<_ μ-add t) add.Pre
+abbrev pub add-below : ℕ → In 3 add-kinds.ps
+add-below t = and 3 add-kinds.ps (falls 3 add-kinds.ps _<_ μ-add t) add.Pre
 
-abbrev pub arrow-at : ℕ → In 2 arrow-kinds.ps
-arrow-at t = and 2 arrow-kinds.ps (is 2 arrow-kinds.ps μ-arrow t) arrow.Pre
+abbrev pub arrow-at : ℕ → In 3 arrow-kinds.ps
+arrow-at t = and 3 arrow-kinds.ps (is 3 arrow-kinds.ps μ-arrow t) arrow.Pre
 
-abbrev pub arrow-below : ℕ → In 2 arrow-kinds.ps
-arrow-below t = and 2 arrow-kinds.ps (falls 2 arrow-kinds.ps _<_ μ-arrow t) arrow.Pre
+abbrev pub arrow-below : ℕ → In 3 arrow-kinds.ps
+arrow-below t = and 3 arrow-kinds.ps (falls 3 arrow-kinds.ps _<_ μ-arrow t) arrow.Pre
 
-abbrev pub assignment-at : ℕ → In 2 assignment-kinds.ps
-assignment-at t = and 2 assignment-kinds.ps (is 2 assignment-kinds.ps μ-assignment t) assignment.Pre
+abbrev pub assignment-at : ℕ → In 3 assignment-kinds.ps
+assignment-at t = and 3 assignment-kinds.ps (is 3 assignment-kinds.ps μ-assignment t) assignment.Pre
 
-abbrev pub assignment-below : ℕ → In 2 assignment-kinds.ps
-assignment-below t = and 2 assignment-kinds.ps (falls 2 assignment-kinds.ps _<_ μ-assignment t) assignment.Pre
+abbrev pub assignment-below : ℕ → In 3 assignment-kinds.ps
+assignment-below t = and 3 assignment-kinds.ps (falls 3 assignment-kinds.ps _<_ μ-assignment t) assignment.Pre
 
-abbrev pub binary-at : ℕ → In 2 binary-kinds.ps
-binary-at t = and 2 binary-kinds.ps (is 2 binary-kinds.ps μ-binary t) binary.Pre
+abbrev pub binary-at : ℕ → In 3 binary-kinds.ps
+binary-at t = and 3 binary-kinds.ps (is 3 binary-kinds.ps μ-binary t) binary.Pre
 
-abbrev pub binary-below : ℕ → In 2 binary-kinds.ps
-binary-below t = and 2 binary-kinds.ps (falls 2 binary-kinds.ps _<_ μ-binary t) binary.Pre
+abbrev pub binary-below : ℕ → In 3 binary-kinds.ps
+binary-below t = and 3 binary-kinds.ps (falls 3 binary-kinds.ps _<_ μ-binary t) binary.Pre
 
-abbrev pub block-at : ℕ → In 2 block-kinds.ps
-block-at t = and 2 block-kinds.ps (is 2 block-kinds.ps μ-block t) block.Pre
+abbrev pub block-at : ℕ → In 3 block-kinds.ps
+block-at t = and 3 block-kinds.ps (is 3 block-kinds.ps μ-block t) block.Pre
 
-abbrev pub block-below : ℕ → In 2 block-kinds.ps
-block-below t = and 2 block-kinds.ps (falls 2 block-kinds.ps _<_ μ-block t) block.Pre
+abbrev pub block-below : ℕ → In 3 block-kinds.ps
+block-below t = and 3 block-kinds.ps (falls 3 block-kinds.ps _<_ μ-block t) block.Pre
 
-abbrev pub chain-at : ℕ → In 2 chain-kinds.ps
-chain-at t = and 2 chain-kinds.ps (is 2 chain-kinds.ps μ-chain t) chain.Pre
+abbrev pub chain-at : ℕ → In 3 chain-kinds.ps
+chain-at t = and 3 chain-kinds.ps (is 3 chain-kinds.ps μ-chain t) chain.Pre
 
-abbrev pub chain-below : ℕ → In 2 chain-kinds.ps
-chain-below t = and 2 chain-kinds.ps (falls 2 chain-kinds.ps _<_ μ-chain t) chain.Pre
+abbrev pub chain-below : ℕ → In 3 chain-kinds.ps
+chain-below t = and 3 chain-kinds.ps (falls 3 chain-kinds.ps _<_ μ-chain t) chain.Pre
 
-abbrev pub choose-at : ℕ → In 2 choose-kinds.ps
-choose-at t = and 2 choose-kinds.ps (is 2 choose-kinds.ps μ-choose t) choose.Pre
+abbrev pub choose-at : ℕ → In 3 choose-kinds.ps
+choose-at t = and 3 choose-kinds.ps (is 3 choose-kinds.ps μ-choose t) choose.Pre
 
-abbrev pub choose-below : ℕ → In 2 choose-kinds.ps
-choose-below t = and 2 choose-kinds.ps (falls 2 choose-kinds.ps _<_ μ-choose t) choose.Pre
+abbrev pub choose-below : ℕ → In 3 choose-kinds.ps
+choose-below t = and 3 choose-kinds.ps (falls 3 choose-kinds.ps _<_ μ-choose t) choose.Pre
 
-abbrev pub coalesce-at : ℕ → In 2 coalesce-kinds.ps
-coalesce-at t = and 2 coalesce-kinds.ps (is 2 coalesce-kinds.ps μ-coalesce t) coalesce.Pre
+abbrev pub coalesce-at : ℕ → In 3 coalesce-kinds.ps
+coalesce-at t = and 3 coalesce-kinds.ps (is 3 coalesce-kinds.ps μ-coalesce t) coalesce.Pre
 
-abbrev pub coalesce-below : ℕ → In 2 coalesce-kinds.ps
-coalesce-below t = and 2 coalesce-kinds.ps (falls 2 coalesce-kinds.ps _<_ μ-coalesce t) coalesce.Pre
+abbrev pub coalesce-below : ℕ → In 3 coalesce-kinds.ps
+coalesce-below t = and 3 coalesce-kinds.ps (falls 3 coalesce-kinds.ps _<_ μ-coalesce t) coalesce.Pre
 
-abbrev pub compare-at : ℕ → In 2 compare-kinds.ps
-compare-at t = and 2 compare-kinds.ps (is 2 compare-kinds.ps μ-compare t) compare.Pre
+abbrev pub compare-at : ℕ → In 3 compare-kinds.ps
+compare-at t = and 3 compare-kinds.ps (is 3 compare-kinds.ps μ-compare t) compare.Pre
 
-abbrev pub compare-below : ℕ → In 2 compare-kinds.ps
-compare-below t = and 2 compare-kinds.ps (falls 2 compare-kinds.ps _<_ μ-compare t) compare.Pre
+abbrev pub compare-below : ℕ → In 3 compare-kinds.ps
+compare-below t = and 3 compare-kinds.ps (falls 3 compare-kinds.ps _<_ μ-compare t) compare.Pre
 
-abbrev pub div-at : ℕ → In 2 div-kinds.ps
-div-at t = and 2 div-kinds.ps (is 2 div-kinds.ps μ-div t) div.Pre
+abbrev pub div-at : ℕ → In 3 div-kinds.ps
+div-at t = and 3 div-kinds.ps (is 3 div-kinds.ps μ-div t) div.Pre
 
-abbrev pub div-below : ℕ → In 2 div-kinds.ps
-div-below t = and 2 div-kinds.ps (falls 2 div-kinds.ps _<_ μ-div t) div.Pre
+abbrev pub div-below : ℕ → In 3 div-kinds.ps
+div-below t = and 3 div-kinds.ps (falls 3 div-kinds.ps _<_ μ-div t) div.Pre
 
-abbrev pub each-at : ℕ → In 2 each-kinds.ps
-each-at t = and 2 each-kinds.ps (is 2 each-kinds.ps μ-each t) each.Pre
+abbrev pub each-at : ℕ → In 3 each-kinds.ps
+each-at t = and 3 each-kinds.ps (is 3 each-kinds.ps μ-each t) each.Pre
 
-abbrev pub each-below : ℕ → In 2 each-kinds.ps
-each-below t = and 2 each-kinds.ps (falls 2 each-kinds.ps _<_ μ-each t) each.Pre
+abbrev pub each-below : ℕ → In 3 each-kinds.ps
+each-below t = and 3 each-kinds.ps (falls 3 each-kinds.ps _<_ μ-each t) each.Pre
 
-abbrev pub element-at : ℕ → In 2 element-kinds.ps
-element-at t = and 2 element-kinds.ps (is 2 element-kinds.ps μ-element t) element.Pre
+abbrev pub element-at : ℕ → In 3 element-kinds.ps
+element-at t = and 3 element-kinds.ps (is 3 element-kinds.ps μ-element t) element.Pre
 
-abbrev pub element-below : ℕ → In 2 element-kinds.ps
-element-below t = and 2 element-kinds.ps (falls 2 element-kinds.ps _<_ μ-element t) element.Pre
+abbrev pub element-below : ℕ → In 3 element-kinds.ps
+element-below t = and 3 element-kinds.ps (falls 3 element-kinds.ps _<_ μ-element t) element.Pre
 
-abbrev pub equal-at : ℕ → In 2 equal-kinds.ps
-equal-at t = and 2 equal-kinds.ps (is 2 equal-kinds.ps μ-equal t) equal.Pre
+abbrev pub equal-at : ℕ → In 3 equal-kinds.ps
+equal-at t = and 3 equal-kinds.ps (is 3 equal-kinds.ps μ-equal t) equal.Pre
 
-abbrev pub equal-below : ℕ → In 2 equal-kinds.ps
-equal-below t = and 2 equal-kinds.ps (falls 2 equal-kinds.ps _<_ μ-equal t) equal.Pre
+abbrev pub equal-below : ℕ → In 3 equal-kinds.ps
+equal-below t = and 3 equal-kinds.ps (falls 3 equal-kinds.ps _<_ μ-equal t) equal.Pre
 
-abbrev pub expr-at : ℕ → In 2 expr-kinds.ps
-expr-at t = and 2 expr-kinds.ps (is 2 expr-kinds.ps μ-expr t) expr.Pre
+abbrev pub expr-at : ℕ → In 3 expr-kinds.ps
+expr-at t = and 3 expr-kinds.ps (is 3 expr-kinds.ps μ-expr t) expr.Pre
 
-abbrev pub expr-below : ℕ → In 2 expr-kinds.ps
-expr-below t = and 2 expr-kinds.ps (falls 2 expr-kinds.ps _<_ μ-expr t) expr.Pre
+abbrev pub expr-below : ℕ → In 3 expr-kinds.ps
+expr-below t = and 3 expr-kinds.ps (falls 3 expr-kinds.ps _<_ μ-expr t) expr.Pre
 
-abbrev pub for-each-at : ℕ → In 2 for-each-kinds.ps
-for-each-at t = and 2 for-each-kinds.ps (is 2 for-each-kinds.ps μ-for-each t) for-each.Pre
+abbrev pub for-each-at : ℕ → In 3 for-each-kinds.ps
+for-each-at t = and 3 for-each-kinds.ps (is 3 for-each-kinds.ps μ-for-each t) for-each.Pre
 
-abbrev pub for-each-below : ℕ → In 2 for-each-kinds.ps
-for-each-below t = and 2 for-each-kinds.ps (falls 2 for-each-kinds.ps _<_ μ-for-each t) for-each.Pre
+abbrev pub for-each-below : ℕ → In 3 for-each-kinds.ps
+for-each-below t = and 3 for-each-kinds.ps (falls 3 for-each-kinds.ps _<_ μ-for-each t) for-each.Pre
 
-abbrev pub hosted-at : ℕ → In 2 hosted-kinds.ps
-hosted-at t = and 2 hosted-kinds.ps (is 2 hosted-kinds.ps μ-hosted t) hosted.Pre
+abbrev pub hosted-at : ℕ → In 3 hosted-kinds.ps
+hosted-at t = and 3 hosted-kinds.ps (is 3 hosted-kinds.ps μ-hosted t) hosted.Pre
 
-abbrev pub hosted-below : ℕ → In 2 hosted-kinds.ps
-hosted-below t = and 2 hosted-kinds.ps (falls 2 hosted-kinds.ps _<_ μ-hosted t) hosted.Pre
+abbrev pub hosted-below : ℕ → In 3 hosted-kinds.ps
+hosted-below t = and 3 hosted-kinds.ps (falls 3 hosted-kinds.ps _<_ μ-hosted t) hosted.Pre
 
-abbrev pub inner-at : ℕ → In 2 inner-kinds.ps
-inner-at t = and 2 inner-kinds.ps (is 2 inner-kinds.ps μ-inner t) inner.Pre
+abbrev pub inner-at : ℕ → In 3 inner-kinds.ps
+inner-at t = and 3 inner-kinds.ps (is 3 inner-kinds.ps μ-inner t) inner.Pre
 
-abbrev pub inner-below : ℕ → In 2 inner-kinds.ps
-inner-below t = and 2 inner-kinds.ps (falls 2 inner-kinds.ps _<_ μ-inner t) inner.Pre
+abbrev pub inner-below : ℕ → In 3 inner-kinds.ps
+inner-below t = and 3 inner-kinds.ps (falls 3 inner-kinds.ps _<_ μ-inner t) inner.Pre
 
-abbrev pub item-at : ℕ → In 2 item-kinds.ps
-item-at t = and 2 item-kinds.ps (is 2 item-kinds.ps μ-item t) item.Pre
+abbrev pub item-at : ℕ → In 3 item-kinds.ps
+item-at t = and 3 item-kinds.ps (is 3 item-kinds.ps μ-item t) item.Pre
 
-abbrev pub item-below : ℕ → In 2 item-kinds.ps
-item-below t = and 2 item-kinds.ps (falls 2 item-kinds.ps _<_ μ-item t) item.Pre
+abbrev pub item-below : ℕ → In 3 item-kinds.ps
+item-below t = and 3 item-kinds.ps (falls 3 item-kinds.ps _<_ μ-item t) item.Pre
 
-abbrev pub join-at : ℕ → In 2 join-kinds.ps
-join-at t = and 2 join-kinds.ps (is 2 join-kinds.ps μ-join t) join.Pre
+abbrev pub join-at : ℕ → In 3 join-kinds.ps
+join-at t = and 3 join-kinds.ps (is 3 join-kinds.ps μ-join t) join.Pre
 
-abbrev pub join-below : ℕ → In 2 join-kinds.ps
-join-below t = and 2 join-kinds.ps (falls 2 join-kinds.ps _<_ μ-join t) join.Pre
+abbrev pub join-below : ℕ → In 3 join-kinds.ps
+join-below t = and 3 join-kinds.ps (falls 3 join-kinds.ps _<_ μ-join t) join.Pre
 
-abbrev pub logical-at : ℕ → In 2 logical-kinds.ps
-logical-at t = and 2 logical-kinds.ps (is 2 logical-kinds.ps μ-logical t) logical.Pre
+abbrev pub logical-at : ℕ → In 3 logical-kinds.ps
+logical-at t = and 3 logical-kinds.ps (is 3 logical-kinds.ps μ-logical t) logical.Pre
 
-abbrev pub logical-below : ℕ → In 2 logical-kinds.ps
-logical-below t = and 2 logical-kinds.ps (falls 2 logical-kinds.ps _<_ μ-logical t) logical.Pre
+abbrev pub logical-below : ℕ → In 3 logical-kinds.ps
+logical-below t = and 3 logical-kinds.ps (falls 3 logical-kinds.ps _<_ μ-logical t) logical.Pre
 
-abbrev pub math-at : ℕ → In 2 math-kinds.ps
-math-at t = and 2 math-kinds.ps (is 2 math-kinds.ps μ-math t) math.Pre
+abbrev pub math-at : ℕ → In 3 math-kinds.ps
+math-at t = and 3 math-kinds.ps (is 3 math-kinds.ps μ-math t) math.Pre
 
-abbrev pub math-below : ℕ → In 2 math-kinds.ps
-math-below t = and 2 math-kinds.ps (falls 2 math-kinds.ps _<_ μ-math t) math.Pre
+abbrev pub math-below : ℕ → In 3 math-kinds.ps
+math-below t = and 3 math-kinds.ps (falls 3 math-kinds.ps _<_ μ-math t) math.Pre
 
-abbrev pub member-at : ℕ → In 2 member-kinds.ps
-member-at t = and 2 member-kinds.ps (is 2 member-kinds.ps μ-member t) member.Pre
+abbrev pub member-at : ℕ → In 3 member-kinds.ps
+member-at t = and 3 member-kinds.ps (is 3 member-kinds.ps μ-member t) member.Pre
 
-abbrev pub member-below : ℕ → In 2 member-kinds.ps
-member-below t = and 2 member-kinds.ps (falls 2 member-kinds.ps _<_ μ-member t) member.Pre
+abbrev pub member-below : ℕ → In 3 member-kinds.ps
+member-below t = and 3 member-kinds.ps (falls 3 member-kinds.ps _<_ μ-member t) member.Pre
 
-abbrev pub mul-at : ℕ → In 2 mul-kinds.ps
-mul-at t = and 2 mul-kinds.ps (is 2 mul-kinds.ps μ-mul t) mul.Pre
+abbrev pub mul-at : ℕ → In 3 mul-kinds.ps
+mul-at t = and 3 mul-kinds.ps (is 3 mul-kinds.ps μ-mul t) mul.Pre
 
-abbrev pub mul-below : ℕ → In 2 mul-kinds.ps
-mul-below t = and 2 mul-kinds.ps (falls 2 mul-kinds.ps _<_ μ-mul t) mul.Pre
+abbrev pub mul-below : ℕ → In 3 mul-kinds.ps
+mul-below t = and 3 mul-kinds.ps (falls 3 mul-kinds.ps _<_ μ-mul t) mul.Pre
 
-abbrev pub other-at : ℕ → In 2 other-kinds.ps
-other-at t = and 2 other-kinds.ps (is 2 other-kinds.ps μ-other t) other.Pre
+abbrev pub other-at : ℕ → In 3 other-kinds.ps
+other-at t = and 3 other-kinds.ps (is 3 other-kinds.ps μ-other t) other.Pre
 
-abbrev pub other-below : ℕ → In 2 other-kinds.ps
-other-below t = and 2 other-kinds.ps (falls 2 other-kinds.ps _<_ μ-other t) other.Pre
+abbrev pub other-below : ℕ → In 3 other-kinds.ps
+other-below t = and 3 other-kinds.ps (falls 3 other-kinds.ps _<_ μ-other t) other.Pre
 
-abbrev pub passed-at : ℕ → In 2 passed-kinds.ps
-passed-at t = and 2 passed-kinds.ps (is 2 passed-kinds.ps μ-passed t) passed.Pre
+abbrev pub passed-at : ℕ → In 3 passed-kinds.ps
+passed-at t = and 3 passed-kinds.ps (is 3 passed-kinds.ps μ-passed t) passed.Pre
 
-abbrev pub passed-below : ℕ → In 2 passed-kinds.ps
-passed-below t = and 2 passed-kinds.ps (falls 2 passed-kinds.ps _<_ μ-passed t) passed.Pre
+abbrev pub passed-below : ℕ → In 3 passed-kinds.ps
+passed-below t = and 3 passed-kinds.ps (falls 3 passed-kinds.ps _<_ μ-passed t) passed.Pre
 
-abbrev pub query-at : ℕ → In 2 query-kinds.ps
-query-at t = and 2 query-kinds.ps (is 2 query-kinds.ps μ-query t) query.Pre
+abbrev pub query-at : ℕ → In 3 query-kinds.ps
+query-at t = and 3 query-kinds.ps (is 3 query-kinds.ps μ-query t) query.Pre
 
-abbrev pub query-below : ℕ → In 2 query-kinds.ps
-query-below t = and 2 query-kinds.ps (falls 2 query-kinds.ps _<_ μ-query t) query.Pre
+abbrev pub query-below : ℕ → In 3 query-kinds.ps
+query-below t = and 3 query-kinds.ps (falls 3 query-kinds.ps _<_ μ-query t) query.Pre
 
-abbrev pub repeat-at : ℕ → In 2 repeat-kinds.ps
-repeat-at t = and 2 repeat-kinds.ps (is 2 repeat-kinds.ps μ-repeat t) repeat.Pre
+abbrev pub repeat-at : ℕ → In 3 repeat-kinds.ps
+repeat-at t = and 3 repeat-kinds.ps (is 3 repeat-kinds.ps μ-repeat t) repeat.Pre
 
-abbrev pub repeat-below : ℕ → In 2 repeat-kinds.ps
-repeat-below t = and 2 repeat-kinds.ps (falls 2 repeat-kinds.ps _<_ μ-repeat t) repeat.Pre
+abbrev pub repeat-below : ℕ → In 3 repeat-kinds.ps
+repeat-below t = and 3 repeat-kinds.ps (falls 3 repeat-kinds.ps _<_ μ-repeat t) repeat.Pre
 
-abbrev pub ret-at : ℕ → In 2 ret-kinds.ps
-ret-at t = and 2 ret-kinds.ps (is 2 ret-kinds.ps μ-ret t) ret.Pre
+abbrev pub ret-at : ℕ → In 3 ret-kinds.ps
+ret-at t = and 3 ret-kinds.ps (is 3 ret-kinds.ps μ-ret t) ret.Pre
 
-abbrev pub ret-below : ℕ → In 2 ret-kinds.ps
-ret-below t = and 2 ret-kinds.ps (falls 2 ret-kinds.ps _<_ μ-ret t) ret.Pre
+abbrev pub ret-below : ℕ → In 3 ret-kinds.ps
+ret-below t = and 3 ret-kinds.ps (falls 3 ret-kinds.ps _<_ μ-ret t) ret.Pre
 
-abbrev pub terms-at : ℕ → In 2 terms-kinds.ps
-terms-at t = and 2 terms-kinds.ps (is 2 terms-kinds.ps μ-terms t) terms.Pre
+abbrev pub terms-at : ℕ → In 3 terms-kinds.ps
+terms-at t = and 3 terms-kinds.ps (is 3 terms-kinds.ps μ-terms t) terms.Pre
 
-abbrev pub terms-below : ℕ → In 2 terms-kinds.ps
-terms-below t = and 2 terms-kinds.ps (falls 2 terms-kinds.ps _<_ μ-terms t) terms.Pre
+abbrev pub terms-below : ℕ → In 3 terms-kinds.ps
+terms-below t = and 3 terms-kinds.ps (falls 3 terms-kinds.ps _<_ μ-terms t) terms.Pre
 
-abbrev pub unary-at : ℕ → In 2 unary-kinds.ps
-unary-at t = and 2 unary-kinds.ps (is 2 unary-kinds.ps μ-unary t) unary.Pre
+abbrev pub unary-at : ℕ → In 3 unary-kinds.ps
+unary-at t = and 3 unary-kinds.ps (is 3 unary-kinds.ps μ-unary t) unary.Pre
 
-abbrev pub unary-below : ℕ → In 2 unary-kinds.ps
-unary-below t = and 2 unary-kinds.ps (falls 2 unary-kinds.ps _<_ μ-unary t) unary.Pre
+abbrev pub unary-below : ℕ → In 3 unary-kinds.ps
+unary-below t = and 3 unary-kinds.ps (falls 3 unary-kinds.ps _<_ μ-unary t) unary.Pre
 
-abbrev pub value-at : ℕ → In 2 value-kinds.ps
-value-at t = and 2 value-kinds.ps (is 2 value-kinds.ps μ-value t) value.Pre
+abbrev pub value-at : ℕ → In 3 value-kinds.ps
+value-at t = and 3 value-kinds.ps (is 3 value-kinds.ps μ-value t) value.Pre
 
-abbrev pub value-below : ℕ → In 2 value-kinds.ps
-value-below t = and 2 value-kinds.ps (falls 2 value-kinds.ps _<_ μ-value t) value.Pre
+abbrev pub value-below : ℕ → In 3 value-kinds.ps
+value-below t = and 3 value-kinds.ps (falls 3 value-kinds.ps _<_ μ-value t) value.Pre
 
 abbrev pub add-claims : ℕ → add-lts.Claims
 add-claims t = (count-at-reads.Asked, count-at-reads.Learnt, failed-reads.Asked, failed-reads.Learnt, first-at-reads.Asked, first-at-reads.Learnt, expr-below t, expr.Post, post-instr-reads.Asked, post-instr-reads.Learnt, push-reads.Asked, push-reads.Learnt, next-at-reads.Asked, next-at-reads.Learnt, terms-below t, terms.Post, pop-reads.Asked, pop-reads.Learnt)
