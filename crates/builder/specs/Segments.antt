@@ -16,8 +16,8 @@ unfoldable pub targeted : State → ℕ → ℕ → List ℕ → List ℕ
 targeted s at target words = G.targeted words (within (s .base) at) target
 
 -- to the segment's end
-unfoldable pub aimed : State → ℕ → ℕ → ℕ → List ℕ → List ℕ
-aimed s at check cleanup words = G.aimedRange words (within (s .base) at) (s .top - within (s .base) at) check cleanup
+unfoldable pub breaksResolved : State → ℕ → ℕ → ℕ → List ℕ → List ℕ
+breaksResolved s at check cleanup words = G.rangeResolved words (within (s .base) at) (s .top - within (s .base) at) check cleanup
 
 unfoldable pub opened : State → State
 opened s = set-waiting false (set-base (s .top) s)

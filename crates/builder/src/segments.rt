@@ -6,7 +6,7 @@ ghost use mathlib.Core.Path.{_≡_};
 ghost use mathlib.Core.List.{List};
 ghost use Prim.Native.Nat.{_-_};
 ghost use Rattle.builder.specs.Steps.{Held};
-ghost use Rattle.builder.specs.Segments.{within, targeted, aimed, opened, closed};
+ghost use Rattle.builder.specs.Segments.{within, targeted, breaksResolved, opened, closed};
 
 // Where the next instruction goes, counted from the segment's start.
 pub fn place(st: State) -> u16
@@ -35,13 +35,13 @@ pub fn set_target(ws: &mut [u32], st: State, at: u16, target: u32)
 }
 
 // Aims the Breaks and Continues from a place of the open segment to its end.
-pub fn aim_from(ws: &mut [u32], st: State, at: u16, check: u32, cleanup: u32)
-    ensures { λ _. ⌜ now (ws .exit) ≡ aimed st at check cleanup (now (ws .entry)) ⌝ }
+pub fn resolve_breaks(ws: &mut [u32], st: State, at: u16, check: u32, cleanup: u32)
+    ensures { λ _. ⌜ now (ws .exit) ≡ breaksResolved st at check cleanup (now (ws .entry)) ⌝ }
 {
     let from = absolute(st, at);
     let top = st.top;
     if from < top {
-        segment::aim(ws, from, top - from, check, cleanup);
+        segment::resolve_breaks(ws, from, top - from, check, cleanup);
     }
 }
 

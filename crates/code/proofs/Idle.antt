@@ -8,7 +8,7 @@ use lib.Bits.{bitOr, or-add-and, and-le-l, and-le-r}
 use lib.ListN.{getD}
 use borrow.Author.Count.{below-none, below-more}
 use borrow.Author.Tests.{ne-eqb}
-use Rattle.code.specs.Segments.{aimedOne, aimedRange, BREAK, CONTINUE}
+use Rattle.code.specs.Segments.{breakResolved, rangeResolved, BREAK, CONTINUE}
 use Rattle.code.proofs.Runs.{aim-next}
 
 pub untrue : {A : Type 0} → false ≡ true → A
@@ -34,12 +34,12 @@ module _ (n : ℕ) (f : ℕ → ℕ) (x : ℕ) where
       below-more P 7 (below-more P 6 (below-more P 5 (below-more P 4 p3 (r1 .0)) (r1 .1)) (r2 .1)) (r3 .1)
 
 module _ (ws : List ℕ) (at check cleanup : ℕ) where
-  idle-one : getD ws (at * 2) 0 < 2147483648 → aimedOne ws at check cleanup ≡ ws
-  unfolding aimedOne
+  idle-one : getD ws (at * 2) 0 < 2147483648 → breakResolved ws at check cleanup ≡ ws
+  unfolding breakResolved
   idle-one h = rw (ne-eqb (getD ws (at * 2) 0) BREAK (λ e. omega arith), ne-eqb (getD ws (at * 2) 0) CONTINUE (λ e. omega arith)) refl
 
 pub idle-next : (ws : List ℕ) (at left check cleanup n : ℕ) {whole : List ℕ} → n ≤ left → ((k : ℕ) → k < n → getD ws (at * 2 + 2 * k) 0 < 2147483648)
-    → aimedRange ws at left check cleanup ≡ whole → aimedRange ws (at + n) (left - n) check cleanup ≡ whole
+    → rangeResolved ws at left check cleanup ≡ whole → rangeResolved ws (at + n) (left - n) check cleanup ≡ whole
 idle-next ws at left check cleanup zero l h f =
     let e : at + 0 ≡ at = omega arith in
     let d : left - 0 ≡ left = omega arith in

@@ -1,4 +1,4 @@
--- Instructions in the workspace's words: appended, given a target, aimed by their loop, moved to the finished code. Definitions only.
+-- Instructions in the workspace's words: appended, given a target, breaksResolved by their loop, moved to the finished code. Definitions only.
 use mathlib.Core.Path.{_≡_}
 use mathlib.Core.Bool.{Bool, true, cond}
 use mathlib.Core.List.{List, [], _∷_}
@@ -32,15 +32,15 @@ abbrev pub JUMP : ℕ
 JUMP = 0x2000_0000
 
 -- a Break or Continue of a loop's body becomes a Jump
-unfoldable pub aimedOne : List ℕ → ℕ → ℕ → ℕ → List ℕ
-aimedOne words at check cleanup =
+unfoldable pub breakResolved : List ℕ → ℕ → ℕ → ℕ → List ℕ
+breakResolved words at check cleanup =
     cond (eqb (getD words (at * 2) 0) BREAK) (sets words (at * 2) (JUMP ∷ cleanup ∷ []))
     (cond (eqb (getD words (at * 2) 0) CONTINUE) (sets words (at * 2) (JUMP ∷ check ∷ [])) words)
 
 -- those of n instructions from a place on
-unfoldable pub aimedRange : List ℕ → ℕ → ℕ → ℕ → ℕ → List ℕ
-aimedRange words at zero check cleanup = words
-aimedRange words at (suc n) check cleanup = aimedRange (aimedOne words at check cleanup) (suc at) n check cleanup
+unfoldable pub rangeResolved : List ℕ → ℕ → ℕ → ℕ → ℕ → List ℕ
+rangeResolved words at zero check cleanup = words
+rangeResolved words at (suc n) check cleanup = rangeResolved (breakResolved words at check cleanup) (suc at) n check cleanup
 
 -- that none of eight instructions from a place on waits, if so answered: their first words lack the top bit
 abbrev pub Idle : List ℕ → ℕ → ℕ → Bool → Type 0

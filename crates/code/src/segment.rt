@@ -2,7 +2,7 @@
 // An instruction's words: opcode * 2^24 + sub * 2^16 + B, then A. A full region is left as it is.
 ghost use mathlib.Core.Path.{_≡_};
 ghost use Prim.Native.Nat.{_+_, _*_, _<_};
-ghost use Rattle.code.specs.Segments.{emitted, emittedTop, targeted, aimedOne, aimedRange, Idle, relocatedOne, relocatedRange, moved, movedCount};
+ghost use Rattle.code.specs.Segments.{emitted, emittedTop, targeted, breakResolved, rangeResolved, Idle, relocatedOne, relocatedRange, moved, movedCount};
 use program::targets;
 use workspace::layout;
 use workspace::words::plus;
@@ -44,9 +44,9 @@ pub fn set_target(ws: &mut [u32], at: u16, target: u32)
 }
 
 // A Break or Continue that waits becomes a Jump to its loop's end or check.
-fn aim_one(ws: &mut [u32], at: usize, check: u32, cleanup: u32)
+fn resolve_break(ws: &mut [u32], at: usize, check: u32, cleanup: u32)
     requires { ⌜ at < 4294967296 ⌝ }
-    ensures { λ _. ⌜ now (ws .exit) ≡ aimedOne (now (ws .entry)) at check cleanup ⌝ }
+    ensures { λ _. ⌜ now (ws .exit) ≡ breakResolved (now (ws .entry)) at check cleanup ⌝ }
 {
     let i = at * 2;
     let front = word(ws, i);
@@ -77,8 +77,8 @@ fn eight_idle(ws: &[u32], at: usize, left: u16) -> bool
 }
 
 // Aims the Breaks and Continues of a loop's body: `count` instructions from a place of the open code on.
-pub fn aim(ws: &mut [u32], from: u16, count: u16, check: u32, cleanup: u32)
-    ensures { λ _. ⌜ now (ws .exit) ≡ aimedRange (now (ws .entry)) from count check cleanup ⌝ }
+pub fn resolve_breaks(ws: &mut [u32], from: u16, count: u16, check: u32, cleanup: u32)
+    ensures { λ _. ⌜ now (ws .exit) ≡ rangeResolved (now (ws .entry)) from count check cleanup ⌝ }
 {
     let mut at = wide(from);
     let mut left = count;
@@ -88,7 +88,7 @@ pub fn aim(ws: &mut [u32], from: u16, count: u16, check: u32, cleanup: u32)
             left -= 8;
             continue;
         }
-        aim_one(ws, at, check, cleanup);
+        resolve_break(ws, at, check, cleanup);
         at += 1;
         left -= 1;
     }

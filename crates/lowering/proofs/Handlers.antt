@@ -26,9 +26,9 @@ use Rattle.lowering.specs.declared.control.EachVariable.{EachVariable}
 use Rattle.lowering.specs.declared.control.EachIndex.the-variants.{Refused}
 use Rattle.lowering.specs.Payloads.{cases, asName, asMath, asQuery, constOf}
 use Rattle.lowering.specs.Steps.{operandEntered, popped, loopEntered, loopLeft, handlerEntered, handlerLeft, flagged, notFloatOnly, queried}
-use Rattle.lowering.specs.Parts.{Step, instr, postBits, putPost, postInstr, guard, land, loopClosed, eachClosed, callBegun, argumentClosed}
+use Rattle.lowering.specs.Parts.{Step, instr, postBits, putPost, postInstr, emitJump, placeTarget, loopClosed, eachClosed, callBegun, argumentClosed}
 use Rattle.lowering.specs.Parts.{eachNext}
-use Rattle.lowering.specs.Rules.{rule, payload, memberPut, arrayPut, store, targetRefusal, compareConst, equalConst, variable, arrayElement, chained, memberRead, arguments, called, query, binary, compare, equal, junction, logical, coalesce, otherwise, conditional, statement, statementsFrom, statements, ret, countedLoop, each, forEach, value, assignment, pointer, bracket, unary, addition, add, mul, div, hosted, hostMath}
+use Rattle.lowering.specs.Rules.{rule, payload, memberPut, arrayPut, store, targetRefusal, compareConst, equalConst, variable, arrayElement, chained, memberRead, arguments, called, query, binary, compare, equal, operands, logic, coalesce, alternative, conditional, statement, statementsFrom, statements, ret, countedLoop, each, forEach, value, assignment, pointer, bracket, unary, terms, add, mul, div, hostArguments, hostMath}
 use Rattle.lowering.proofs.Others.{not-member}
 use Rattle.lowering.proofs.Variants.{no-array, no-query, no-math}
 use Rattle.lowering.proofs.Refused.{is-refused, not-refused}
@@ -123,20 +123,20 @@ module _ (t : List ℕ) (E : ℕ → Bool → Step) (C : ℕ → NameRef → Boo
   unfolding equal
   equal-all o ek z ex ea y e1 e2 e3 = rw (← ek, ne-eqb _ _ z, ne-eqb _ _ y, e3, e2, e1, ex, ea)
 
-  pub logical-none : (step last : ℕ) {k : ℕ} {g : Held} → k ≡ countAt t p → k ≡ 0 → g ≡ failed 7 h → g ≡ logical t E C R step last p l h
-  unfolding logical
+  pub logical-none : (step last : ℕ) {k : ℕ} {g : Held} → k ≡ countAt t p → k ≡ 0 → g ≡ failed 7 h → g ≡ logic t E C R step last p l h
+  unfolding logic
   logical-none step last ek z e = rw (← ek, eq-eqb _ _ z) e
 
-  pub logical-all : (step last : ℕ) {k a : ℕ} {x : Found} {g : Held} → k ≡ countAt t p → (k ≡ 0 → ⊥) → x ≡ B.post (postBits t p) h → a ≡ firstAt t p → g ≡ junction t E C R step last (x .0 .index) (k - 1) a l (x .0 .state, x .1) → g ≡ logical t E C R step last p l h
-  unfolding logical
+  pub logical-all : (step last : ℕ) {k a : ℕ} {x : Found} {g : Held} → k ≡ countAt t p → (k ≡ 0 → ⊥) → x ≡ B.post (postBits t p) h → a ≡ firstAt t p → g ≡ operands t E C R step last (x .0 .index) (k - 1) a l (x .0 .state, x .1) → g ≡ logic t E C R step last p l h
+  unfolding logic
   logical-all step last ek z ex ea e = rw (← ek, ne-eqb _ _ z, e, ex, ea)
 
-  pub junction-end : (step last q m : ℕ) {h1 h2 : Held} → h1 ≡ E p l h → m ≡ 0 → h2 ≡ instr last 0 0 q h1 → h2 ≡ junction t E C R step last q m p l h
-  unfolding junction
+  pub junction-end : (step last q m : ℕ) {h1 h2 : Held} → h1 ≡ E p l h → m ≡ 0 → h2 ≡ instr last 0 0 q h1 → h2 ≡ operands t E C R step last q m p l h
+  unfolding operands
   junction-end step last q m e1 z e2 = rw (z, e2, e1)
 
-  pub junction-on : (step last q m : ℕ) {b : ℕ} {x : Found} {h1 h2 h3 : Held} → h1 ≡ E p l h → (m ≡ 0 → ⊥) → x ≡ guard step 0 q h1 → b ≡ nextAt t p → h2 ≡ junction t E C R step last q (m - 1) b l (x .0 .state, x .1) → h3 ≡ land (x .0 .index) h2 → h3 ≡ junction t E C R step last q m p l h
-  unfolding junction
+  pub junction-on : (step last q m : ℕ) {b : ℕ} {x : Found} {h1 h2 h3 : Held} → h1 ≡ E p l h → (m ≡ 0 → ⊥) → x ≡ emitJump step 0 q h1 → b ≡ nextAt t p → h2 ≡ operands t E C R step last q (m - 1) b l (x .0 .state, x .1) → h3 ≡ placeTarget (x .0 .index) h2 → h3 ≡ operands t E C R step last q m p l h
+  unfolding operands
   junction-on step last q zero e1 z ex eb e2 e3 = absurd (z refl)
   junction-on step last q (suc m) e1 z ex eb e2 e3 = let i : suc m - 1 ≡ m = omega arith in rw (e3, e2, i, ex, eb, e1)
 
@@ -166,7 +166,7 @@ module _ (t : List ℕ) (E : ℕ → Bool → Step) (C : ℕ → NameRef → Boo
   unfolding add
   add-one ek z ea e1 y e2 = rw (← ek, ne-eqb _ _ z, eq-eqb _ _ y, e2, e1, ea)
 
-  pub add-all : {k a b : ℕ} {s1 s2 : State} {h1 h2 : Held} → k ≡ countAt t p → (k ≡ 0 → ⊥) → a ≡ firstAt t p → h1 ≡ E a l h → (k ≡ 1 → ⊥) → s1 ≡ pushed (h1 .0) → b ≡ nextAt t a → h2 ≡ addition t E C R p (k - 2) b l (s1, h1 .1) → s2 ≡ popped 1 (h2 .0) → _≡_ {A = Held} (s2, h2 .1) (add t E C R p l h)
+  pub add-all : {k a b : ℕ} {s1 s2 : State} {h1 h2 : Held} → k ≡ countAt t p → (k ≡ 0 → ⊥) → a ≡ firstAt t p → h1 ≡ E a l h → (k ≡ 1 → ⊥) → s1 ≡ pushed (h1 .0) → b ≡ nextAt t a → h2 ≡ terms t E C R p (k - 2) b l (s1, h1 .1) → s2 ≡ popped 1 (h2 .0) → _≡_ {A = Held} (s2, h2 .1) (add t E C R p l h)
   unfolding add
   add-all ek z ea e1 y e2 eb e3 e4 = rw (← ek, ne-eqb _ _ z, ne-eqb _ _ y, e4, e3, eb, e2, e1, ea)
 
@@ -182,7 +182,7 @@ module _ (t : List ℕ) (E : ℕ → Bool → Step) (C : ℕ → NameRef → Boo
   unfolding div
   div-few ek z e = rw (← ek, lt-ltb _ _ z) e
 
-  pub div-all : {k a b d : ℕ} {s1 s2 : State} {x : Found} {h1 h2 h3 h4 : Held} → k ≡ countAt t p → 2 ≤ k → a ≡ firstAt t p → b ≡ nextAt t a → h1 ≡ E b l h → d ≡ bit (eqb (be8 t 0 6) 1) → x ≡ guard 20 d 0 h1 → s1 ≡ operandEntered (x .0 .state) → h2 ≡ E a l (s1, x .1) → h3 ≡ putPost t p 21 0 0 h2 → s2 ≡ popped 1 (h3 .0) → h4 ≡ land (x .0 .index) (s2, h3 .1) → h4 ≡ div t E C R p l h
+  pub div-all : {k a b d : ℕ} {s1 s2 : State} {x : Found} {h1 h2 h3 h4 : Held} → k ≡ countAt t p → 2 ≤ k → a ≡ firstAt t p → b ≡ nextAt t a → h1 ≡ E b l h → d ≡ bit (eqb (be8 t 0 6) 1) → x ≡ emitJump 20 d 0 h1 → s1 ≡ operandEntered (x .0 .state) → h2 ≡ E a l (s1, x .1) → h3 ≡ putPost t p 21 0 0 h2 → s2 ≡ popped 1 (h3 .0) → h4 ≡ placeTarget (x .0 .index) (s2, h3 .1) → h4 ≡ div t E C R p l h
   unfolding div
   div-all ek z ea eb e1 ed ex e2 e3 e4 e5 e6 = rw (← ek, le-ltb _ _ z, e6, e5, e4, e3, e2, ex, ed, e1, eb, ea)
 
@@ -198,7 +198,7 @@ module _ (t : List ℕ) (E : ℕ → Bool → Step) (C : ℕ → NameRef → Boo
   unfolding hostMath asMath cases
   math-many bits e1 ey en ek z w e = rw (← ey, en, ← ek, ne-eqb _ _ z, lt-ltb _ _ w, e, e1)
 
-  pub math-all : (bits : ℕ) {k f : ℕ} {y : Payload} {s1 s2 : State} {h1 : Held} → s1 ≡ flagged bits (h .0) → y ≡ payload t p → y ≡ HostMath f → k ≡ countAt t p → (k ≡ 0 → ⊥) → k ≤ 255 → h1 ≡ hosted t E C R p f k (k - 1) (firstAt t p) l (s1, h .1) → s2 ≡ popped (k - 1) (h1 .0) → _≡_ {A = Held} (s2, h1 .1) (hostMath t E C R bits p l h)
+  pub math-all : (bits : ℕ) {k f : ℕ} {y : Payload} {s1 s2 : State} {h1 : Held} → s1 ≡ flagged bits (h .0) → y ≡ payload t p → y ≡ HostMath f → k ≡ countAt t p → (k ≡ 0 → ⊥) → k ≤ 255 → h1 ≡ hostArguments t E C R p f k (k - 1) (firstAt t p) l (s1, h .1) → s2 ≡ popped (k - 1) (h1 .0) → _≡_ {A = Held} (s2, h1 .1) (hostMath t E C R bits p l h)
   unfolding hostMath asMath cases
   math-all bits e1 ey en ek z w e2 e3 = rw (← ey, en, ← ek, ne-eqb _ _ z, le-ltb _ _ w, e3, e2, e1)
 
@@ -208,7 +208,7 @@ module _ (t : List ℕ) (E : ℕ → Bool → Step) (C : ℕ → NameRef → Boo
   unfolding pointer
   pointer-few e1 e2 ek z e = rw (← ek, lt-ltb _ _ z, e, e2, e1)
 
-  pub pointer-all : {k a b : ℕ} {s1 s2 : State} {x y : Found} {h1 h2 h3 h4 : Held} → s1 ≡ notFloatOnly (h .0) → s2 ≡ flagged 128 s1 → k ≡ countAt t p → 2 ≤ k → x ≡ B.post (postBits t p) (s2, h .1) → a ≡ firstAt t p → h1 ≡ E a l (x .0 .state, x .1) → y ≡ guard 37 0 (x .0 .index) h1 → b ≡ nextAt t a → h2 ≡ E b l (y .0 .state, y .1) → h3 ≡ instr 38 0 0 (x .0 .index) h2 → h4 ≡ land (y .0 .index) h3 → h4 ≡ pointer t E C R p l h
+  pub pointer-all : {k a b : ℕ} {s1 s2 : State} {x y : Found} {h1 h2 h3 h4 : Held} → s1 ≡ notFloatOnly (h .0) → s2 ≡ flagged 128 s1 → k ≡ countAt t p → 2 ≤ k → x ≡ B.post (postBits t p) (s2, h .1) → a ≡ firstAt t p → h1 ≡ E a l (x .0 .state, x .1) → y ≡ emitJump 37 0 (x .0 .index) h1 → b ≡ nextAt t a → h2 ≡ E b l (y .0 .state, y .1) → h3 ≡ instr 38 0 0 (x .0 .index) h2 → h4 ≡ placeTarget (y .0 .index) h3 → h4 ≡ pointer t E C R p l h
   unfolding pointer
   pointer-all e1 e2 ek z ex ea e3 ey eb e4 e5 e6 = rw (← ek, le-ltb _ _ z, e6, e5, e4, eb, ey, e3, ea, ex, e2, e1)
 
@@ -218,23 +218,23 @@ module _ (t : List ℕ) (E : ℕ → Bool → Step) (C : ℕ → NameRef → Boo
   unfolding coalesce
   coalesce-few ek z e = rw (← ek, lt-ltb _ _ z) e
 
-  pub coalesce-all : {k a b : ℕ} {s1 s2 : State} {x y : Found} {h1 h2 h3 h4 h5 : Held} → k ≡ countAt t p → 2 ≤ k → a ≡ firstAt t p → x ≡ guard 35 0 0 h → s1 ≡ handlerEntered (x .0 .state) → h1 ≡ E a l (s1, x .1) → s2 ≡ handlerLeft (h1 .0) → y ≡ guard 36 0 0 (s2, h1 .1) → h2 ≡ land (x .0 .index) (y .0 .state, y .1) → b ≡ nextAt t a → h3 ≡ E b l h2 → h4 ≡ land (y .0 .index) h3 → h5 ≡ postInstr t p h4 → h5 ≡ coalesce t E C R p l h
+  pub coalesce-all : {k a b : ℕ} {s1 s2 : State} {x y : Found} {h1 h2 h3 h4 h5 : Held} → k ≡ countAt t p → 2 ≤ k → a ≡ firstAt t p → x ≡ emitJump 35 0 0 h → s1 ≡ handlerEntered (x .0 .state) → h1 ≡ E a l (s1, x .1) → s2 ≡ handlerLeft (h1 .0) → y ≡ emitJump 36 0 0 (s2, h1 .1) → h2 ≡ placeTarget (x .0 .index) (y .0 .state, y .1) → b ≡ nextAt t a → h3 ≡ E b l h2 → h4 ≡ placeTarget (y .0 .index) h3 → h5 ≡ postInstr t p h4 → h5 ≡ coalesce t E C R p l h
   unfolding coalesce
   coalesce-all ek z ea ex e1 e2 e3 ey e4 eb e5 e6 e7 = rw (← ek, le-ltb _ _ z, e7, e6, e5, eb, e4, ey, e3, e2, e1, ex, ea)
 
-  pub other-zero : (b : ℕ) {k : ℕ} {g : Held} → k ≡ countAt t p → k < 3 → g ≡ constant 0 h → g ≡ otherwise t E C R p b l h
-  unfolding otherwise
+  pub other-zero : (b : ℕ) {k : ℕ} {g : Held} → k ≡ countAt t p → k < 3 → g ≡ constant 0 h → g ≡ alternative t E C R p b l h
+  unfolding alternative
   other-zero b ek z e = rw (← ek, lt-ltb _ _ z) e
 
-  pub other-all : (b : ℕ) {k d : ℕ} {g : Held} → k ≡ countAt t p → 3 ≤ k → d ≡ nextAt t b → g ≡ E d l h → g ≡ otherwise t E C R p b l h
-  unfolding otherwise
+  pub other-all : (b : ℕ) {k d : ℕ} {g : Held} → k ≡ countAt t p → 3 ≤ k → d ≡ nextAt t b → g ≡ E d l h → g ≡ alternative t E C R p b l h
+  unfolding alternative
   other-all b ek z ed e = rw (← ek, le-ltb _ _ z, e, ed)
 
   pub conditional-few : {k : ℕ} {g : Held} → k ≡ countAt t p → k < 2 → g ≡ failed 7 h → g ≡ conditional t E C R p l h
   unfolding conditional
   conditional-few ek z e = rw (← ek, lt-ltb _ _ z) e
 
-  pub conditional-all : {k a b : ℕ} {x y : Found} {h1 h2 h3 h4 h5 h6 : Held} → k ≡ countAt t p → 2 ≤ k → a ≡ firstAt t p → b ≡ nextAt t a → h1 ≡ E a l h → x ≡ guard 33 0 0 h1 → h2 ≡ E b l (x .0 .state, x .1) → y ≡ guard 32 0 0 h2 → h3 ≡ land (x .0 .index) (y .0 .state, y .1) → h4 ≡ otherwise t E C R p b l h3 → h5 ≡ land (y .0 .index) h4 → h6 ≡ postInstr t p h5 → h6 ≡ conditional t E C R p l h
+  pub conditional-all : {k a b : ℕ} {x y : Found} {h1 h2 h3 h4 h5 h6 : Held} → k ≡ countAt t p → 2 ≤ k → a ≡ firstAt t p → b ≡ nextAt t a → h1 ≡ E a l h → x ≡ emitJump 33 0 0 h1 → h2 ≡ E b l (x .0 .state, x .1) → y ≡ emitJump 32 0 0 h2 → h3 ≡ placeTarget (x .0 .index) (y .0 .state, y .1) → h4 ≡ alternative t E C R p b l h3 → h5 ≡ placeTarget (y .0 .index) h4 → h6 ≡ postInstr t p h5 → h6 ≡ conditional t E C R p l h
   unfolding conditional
   conditional-all ek z ea eb e1 ex e2 ey e3 e4 e5 e6 = rw (← ek, le-ltb _ _ z, e6, e5, e4, e3, ey, e2, ex, e1, eb, ea)
 
@@ -258,7 +258,7 @@ module _ (t : List ℕ) (E : ℕ → Bool → Step) (C : ℕ → NameRef → Boo
   unfolding countedLoop
   loop-few e1 ek z e = rw (← ek, lt-ltb _ _ z, e, e1)
 
-  pub loop-all : {k a b v : ℕ} {s1 s2 s3 s4 s5 : State} {x : Found} {h1 h2 h3 h4 : Held} → s1 ≡ flagged 64 (h .0) → k ≡ countAt t p → 2 ≤ k → a ≡ firstAt t p → h1 ≡ E a l (s1, h .1) → x ≡ guard 40 0 0 h1 → s2 ≡ operandEntered (x .0 .state) → s3 ≡ loopEntered s2 → b ≡ nextAt t a → h2 ≡ E b true (s3, x .1) → h3 ≡ loopClosed (x .0 .index) h2 → s4 ≡ popped 1 (h3 .0) → s5 ≡ loopLeft s4 → v ≡ fold (postBits t p) 0 → h4 ≡ constant v (s5, h3 .1) → h4 ≡ countedLoop t E C R p l h
+  pub loop-all : {k a b v : ℕ} {s1 s2 s3 s4 s5 : State} {x : Found} {h1 h2 h3 h4 : Held} → s1 ≡ flagged 64 (h .0) → k ≡ countAt t p → 2 ≤ k → a ≡ firstAt t p → h1 ≡ E a l (s1, h .1) → x ≡ emitJump 40 0 0 h1 → s2 ≡ operandEntered (x .0 .state) → s3 ≡ loopEntered s2 → b ≡ nextAt t a → h2 ≡ E b true (s3, x .1) → h3 ≡ loopClosed (x .0 .index) h2 → s4 ≡ popped 1 (h3 .0) → s5 ≡ loopLeft s4 → v ≡ fold (postBits t p) 0 → h4 ≡ constant v (s5, h3 .1) → h4 ≡ countedLoop t E C R p l h
   unfolding countedLoop
   loop-all e1 ek z ea e2 ex e3 e4 eb e5 e6 e7 e8 ev e9 = rw (← ek, le-ltb _ _ z, e9, ev, e8, e7, e6, e5, eb, e4, e3, ex, e2, ea, e1)
 
@@ -274,7 +274,7 @@ module _ (t : List ℕ) (E : ℕ → Bool → Step) (C : ℕ → NameRef → Boo
   unfolding forEach
   each-some e1 e2 ek z ea ey n e = rw (← ek, le-ltb _ _ z, ← ea, ← e1, ← e2, ← ey, not-refused _ n) e
 
-  pub each-all : (next : Held → Found) {a b d v : ℕ} {s1 s2 : State} {x y : Found} {h1 h2 h3 h4 : Held} → a ≡ firstAt t p → b ≡ nextAt t a → h1 ≡ E b l h → x ≡ guard 43 0 0 h1 → y ≡ next (x .0 .state, x .1) → s1 ≡ loopEntered (y .0 .state) → d ≡ nextAt t b → h2 ≡ E d true (s1, y .1) → h3 ≡ eachClosed (x .0 .index) (y .0 .index) h2 → s2 ≡ loopLeft (h3 .0) → v ≡ fold (postBits t p) 0 → h4 ≡ constant v (s2, h3 .1) → h4 ≡ each t E C R p next l h
+  pub each-all : (next : Held → Found) {a b d v : ℕ} {s1 s2 : State} {x y : Found} {h1 h2 h3 h4 : Held} → a ≡ firstAt t p → b ≡ nextAt t a → h1 ≡ E b l h → x ≡ emitJump 43 0 0 h1 → y ≡ next (x .0 .state, x .1) → s1 ≡ loopEntered (y .0 .state) → d ≡ nextAt t b → h2 ≡ E d true (s1, y .1) → h3 ≡ eachClosed (x .0 .index) (y .0 .index) h2 → s2 ≡ loopLeft (h3 .0) → v ≡ fold (postBits t p) 0 → h4 ≡ constant v (s2, h3 .1) → h4 ≡ each t E C R p next l h
   unfolding each
   each-all next ea eb e1 ex ey e2 ed e3 e4 e5 ev e6 = rw (e6, ev, e5, e4, e3, ed, e2, ey, ex, e1, eb, ea)
 
@@ -289,26 +289,26 @@ module _ (t : List ℕ) (E : ℕ → Bool → Step) (C : ℕ → NameRef → Boo
 
   -- ---- loops: the rest from here is the whole
 
-  pub addition-on : (l : Bool) (h : Held) (m a : ℕ) {b : ℕ} {h1 h2 g : Held} → 0 < m → h1 ≡ E a l h → h2 ≡ instr 17 0 0 0 h1 → b ≡ nextAt t a → addition t E C R p m a l h ≡ g → addition t E C R p (m - 1) b l h2 ≡ g
-  unfolding addition
+  pub addition-on : (l : Bool) (h : Held) (m a : ℕ) {b : ℕ} {h1 h2 g : Held} → 0 < m → h1 ≡ E a l h → h2 ≡ instr 17 0 0 0 h1 → b ≡ nextAt t a → terms t E C R p m a l h ≡ g → terms t E C R p (m - 1) b l h2 ≡ g
+  unfolding terms
   addition-on l h zero a z e1 e2 eb e = absurd (omega arith)
   addition-on l h (suc m) a z e1 e2 eb e = let i : suc m - 1 ≡ m = omega arith in rw (i, eb, e2, e1) e
 
-  pub addition-end : (l : Bool) (h : Held) (m a : ℕ) {h1 h2 g : Held} → m ≤ 0 → h1 ≡ E a l h → h2 ≡ putPost t p 18 0 0 h1 → addition t E C R p m a l h ≡ g → h2 ≡ g
-  unfolding addition
+  pub addition-end : (l : Bool) (h : Held) (m a : ℕ) {h1 h2 g : Held} → m ≤ 0 → h1 ≡ E a l h → h2 ≡ putPost t p 18 0 0 h1 → terms t E C R p m a l h ≡ g → h2 ≡ g
+  unfolding terms
   addition-end l h zero a z e1 e2 e = rw (e2, e1) e
   addition-end l h (suc m) a z e1 e2 e = absurd (omega arith)
 
-  pub hosted-on : (f k : ℕ) (l : Bool) (h : Held) (m a : ℕ) {b : ℕ} {s : State} {h1 g : Held} → 0 < m → h1 ≡ E a l h → s ≡ pushed (h1 .0) → b ≡ nextAt t a → hosted t E C R p f k m a l h ≡ g → hosted t E C R p f k (m - 1) b l (s, h1 .1) ≡ g
-  unfolding hosted
+  pub hosted-on : (f k : ℕ) (l : Bool) (h : Held) (m a : ℕ) {b : ℕ} {s : State} {h1 g : Held} → 0 < m → h1 ≡ E a l h → s ≡ pushed (h1 .0) → b ≡ nextAt t a → hostArguments t E C R p f k m a l h ≡ g → hostArguments t E C R p f k (m - 1) b l (s, h1 .1) ≡ g
+  unfolding hostArguments
   hosted-on f k l h zero a z e1 e2 eb e = absurd (omega arith)
   hosted-on f k l h (suc m) a z e1 e2 eb e = let i : suc m - 1 ≡ m = omega arith in rw (i, eb, e2, e1) e
 
-  pub hosted-all : (f k m : ℕ) (l : Bool) (h : Held) {a : ℕ} {g : Held} → a ≡ firstAt t p → g ≡ hosted t E C R p f k m a l h → g ≡ hosted t E C R p f k m (firstAt t p) l h
+  pub hosted-all : (f k m : ℕ) (l : Bool) (h : Held) {a : ℕ} {g : Held} → a ≡ firstAt t p → g ≡ hostArguments t E C R p f k m a l h → g ≡ hostArguments t E C R p f k m (firstAt t p) l h
   hosted-all f k m l h ea e = rw (← ea) e
 
-  pub hosted-end : (f k : ℕ) (l : Bool) (h : Held) (m a : ℕ) {h1 h2 g : Held} → m ≤ 0 → h1 ≡ E a l h → h2 ≡ putPost t p 22 k f h1 → hosted t E C R p f k m a l h ≡ g → h2 ≡ g
-  unfolding hosted
+  pub hosted-end : (f k : ℕ) (l : Bool) (h : Held) (m a : ℕ) {h1 h2 g : Held} → m ≤ 0 → h1 ≡ E a l h → h2 ≡ putPost t p 22 k f h1 → hostArguments t E C R p f k m a l h ≡ g → h2 ≡ g
+  unfolding hostArguments
   hosted-end f k l h zero a z e1 e2 e = rw (e2, e1) e
   hosted-end f k l h (suc m) a z e1 e2 e = absurd (omega arith)
 

@@ -19,7 +19,7 @@ use Rattle.lowering.specs.declared.control.EachIndex.the-variants.{Name,
 use Rattle.builder.specs.Steps.{Held, emitted, flushed, put}
 use Rattle.lowering.specs.Pools as B
 use Rattle.lowering.specs.Pools.{Found, after}
-use Rattle.builder.specs.Segments.{targeted, aimed, closed}
+use Rattle.builder.specs.Segments.{targeted, breaksResolved, closed}
 use Rattle.lowering.specs.Steps.{set-stores, set-paths, set-calls, set-arguments}
 
 abbrev pub Step : Type 0
@@ -87,18 +87,18 @@ abbrev pub place : State → ℕ
 place s = s .top - s .base
 
 -- an instruction whose target is not known yet, and its place
-unfoldable pub guard : ℕ → ℕ → ℕ → Held → Found
-guard op sub b h =
+unfoldable pub emitJump : ℕ → ℕ → ℕ → Held → Found
+emitJump op sub b h =
     let g = flushed h in
     let r = emitted (front op sub b) 0 g in
     (record { state = r .0; index = place (g .0) }, r .1)
 
-abbrev pub withGuard : ℕ → ℕ → ℕ → (ℕ → Step) → Step
-withGuard op sub b f h = going (guard op sub b h) f
+abbrev pub withJump : ℕ → ℕ → ℕ → (ℕ → Step) → Step
+withJump op sub b f h = going (emitJump op sub b h) f
 
 -- its target is the next instruction
-unfoldable pub land : ℕ → Step
-land at h = (h .0, targeted (h .0) at (place (h .0)) (h .1))
+unfoldable pub placeTarget : ℕ → Step
+placeTarget at h = (h .0, targeted (h .0) at (place (h .0)) (h .1))
 
 -- Break and Continue wait for their loop; Halt where none is open
 unfoldable pub jumpOut : ℕ → Bool → Step
@@ -106,7 +106,7 @@ jumpOut waits looping = either looping (put waits 0) (instr O.HALT 0 0 0)
 
 -- the Breaks and Continues from a place of the open segment on lead to these places of it
 abbrev pub resolveBreaks : ℕ → ℕ → ℕ → Step
-resolveBreaks at check cleanup h = (h .0, aimed (h .0) at check cleanup (h .1))
+resolveBreaks at check cleanup h = (h .0, breaksResolved (h .0) at check cleanup (h .1))
 
 -- behind a loop's body: its Breaks and Continues, LoopCheck, LoopEnd, and the target of LoopBegin
 unfoldable pub loopClosed : ℕ → Step
@@ -116,7 +116,7 @@ loopClosed at h =
       resolveBreaks (after at) check (check + 1)
       instr O.LOOP-CHECK 0 (at + 1) 0
       instr O.LOOP-END 0 0 0
-      land at) h
+      placeTarget at) h
 
 -- behind a ForEach's body: its Breaks and Continues, the Jump back, the target of EachNext, LoopEnd, and the target of EachBegin
 unfoldable pub eachClosed : ℕ → ℕ → Step
@@ -125,9 +125,9 @@ eachClosed begin next h =
     (do
       resolveBreaks (after next) next (back + 1)
       instr O.JUMP 0 next 0
-      land next
+      placeTarget next
       instr O.LOOP-END 0 0 0
-      land begin) h
+      placeTarget begin) h
 
 -- 01, question 7: "a ForEach variable Entity or Temp under any operator"
 unfoldable pub isRefused : EachIndex → Bool
@@ -137,8 +137,8 @@ isRefused Refused = true
 
 -- 01, The program image: "in EachNextVar and EachNextTemp, A is the exit and B the variable"; a refused variable has neither
 unfoldable pub eachNext : EachIndex → Held → Found
-eachNext (Name n) = guard O.EACH-NEXT-VAR 0 (n .0)
-eachNext (Temp n) = guard O.EACH-NEXT-TEMP 0 (n .0)
+eachNext (Name n) = emitJump O.EACH-NEXT-VAR 0 (n .0)
+eachNext (Temp n) = emitJump O.EACH-NEXT-TEMP 0 (n .0)
 eachNext Refused = λ h. (record { state = h .0; index = place (h .0) }, h .1)
 
 -- a call takes its number, and places for its arguments' starts
@@ -154,7 +154,7 @@ abbrev pub withCall : ℕ → ℕ → ℕ → (ℕ → Step) → Step
 withCall index impl count f h = going (callBegun index impl count h) f
 
 -- the segment of the argument at that place is finished: its End, its start, and the caller's segment is open again
--- a Break or Continue that no loop has aimed leads to the start
+-- a Break or Continue that no loop has breaksResolved leads to the start
 unfoldable pub argumentClosed : ℕ → Bool → ℕ → Step
 argumentClosed base waiting slot h =
     let g = instr O.END 0 0 0 h in

@@ -22,7 +22,7 @@ use Rattle.builder.specs.Segments.{opened}
 use Rattle.lowering.specs.Payloads.{constOf}
 use Rattle.lowering.specs.Steps.{operandEntered, popped, loopEntered, loopLeft, handlerEntered, handlerLeft, flagged, notFloatOnly, queried}
 use Rattle.lowering.specs.Parts.{Step, _>>_, _>>=_, either, still, instr}
-use Rattle.lowering.specs.Parts.{postBits, withPost, putPost, postInstr, guard, withGuard, land, resolveBreaks, loopClosed, eachClosed}
+use Rattle.lowering.specs.Parts.{postBits, withPost, putPost, postInstr, emitJump, withJump, placeTarget, resolveBreaks, loopClosed, eachClosed}
 use Rattle.lowering.specs.Parts.{withCall, argumentClosed}
 use Rattle.lowering.specs.Parts.{isRefused, eachNext}
 unfoldable pub use Rattle.lowering.specs.Leaves.{among, noVariable, variableOf, nameKind, tempKind, noPath, payload, rule, ifName, ifHash}
@@ -107,46 +107,46 @@ module _ (t : List ℕ) (E : ℕ → Bool → Step) (C : ℕ → NameRef → Boo
           still (popped 1)
 
   -- m steps and the last operand, from the operand at a on
-  unfoldable pub junction : ℕ → ℕ → ℕ → ℕ → ℕ → Bool → Step
-  junction step last q zero a l h = (do
+  unfoldable pub operands : ℕ → ℕ → ℕ → ℕ → ℕ → Bool → Step
+  operands step last q zero a l h = (do
     E a l
     instr last 0 0 q) h
-  junction step last q (suc m) a l h = (do
+  operands step last q (suc m) a l h = (do
     E a l
-    e ← withGuard step 0 q
-    junction step last q m (nextAt t a) l
-    land e) h
+    e ← withJump step 0 q
+    operands step last q m (nextAt t a) l
+    placeTarget e) h
 
-  unfoldable pub logical : ℕ → ℕ → ℕ → Bool → Step
-  logical step last p l = either (eqb (countAt t p) 0) (failed Refusal.FAILED) do
+  unfoldable pub logic : ℕ → ℕ → ℕ → Bool → Step
+  logic step last p l = either (eqb (countAt t p) 0) (failed Refusal.FAILED) do
     q ← withPost t p
-    junction step last q (countAt t p - 1) (firstAt t p) l
+    operands step last q (countAt t p - 1) (firstAt t p) l
 
   unfoldable pub coalesce : ℕ → Bool → Step
   coalesce p l = either (ltb (countAt t p) 2) (failed Refusal.FAILED) do
-    missing ← withGuard O.HANDLER-PUSH 0 0
+    missing ← withJump O.HANDLER-PUSH 0 0
     still handlerEntered
     E (firstAt t p) l
     still handlerLeft
-    end ← withGuard O.HANDLER-POP 0 0
-    land missing
+    end ← withJump O.HANDLER-POP 0 0
+    placeTarget missing
     E (nextAt t (firstAt t p)) l
-    land end
+    placeTarget end
     postInstr t p
 
   -- the third child, or 0.0
-  unfoldable pub otherwise : ℕ → ℕ → Bool → Step
-  otherwise p b l = either (ltb (countAt t p) 3) (constant 0) (E (nextAt t b) l)
+  unfoldable pub alternative : ℕ → ℕ → Bool → Step
+  alternative p b l = either (ltb (countAt t p) 3) (constant 0) (E (nextAt t b) l)
 
   unfoldable pub conditional : ℕ → Bool → Step
   conditional p l = either (ltb (countAt t p) 2) (failed Refusal.FAILED) do
     E (firstAt t p) l
-    falsy ← withGuard O.JUMP-IF-FALSY 0 0
+    falsy ← withJump O.JUMP-IF-FALSY 0 0
     E (nextAt t (firstAt t p)) l
-    end ← withGuard O.JUMP 0 0
-    land falsy
-    otherwise p (nextAt t (firstAt t p)) l
-    land end
+    end ← withJump O.JUMP 0 0
+    placeTarget falsy
+    alternative p (nextAt t (firstAt t p)) l
+    placeTarget end
     postInstr t p
 
   unfoldable pub statement : ℕ → Bool → Step
@@ -171,7 +171,7 @@ module _ (t : List ℕ) (E : ℕ → Bool → Step) (C : ℕ → NameRef → Boo
     still (flagged Flag.HAS-LOOPS)
     either (ltb (countAt t p) 2) (failed Refusal.FAILED) do
       E (firstAt t p) l
-      begin ← withGuard O.LOOP-BEGIN 0 0
+      begin ← withJump O.LOOP-BEGIN 0 0
       still operandEntered
       still loopEntered
       E (nextAt t (firstAt t p)) true
@@ -184,7 +184,7 @@ module _ (t : List ℕ) (E : ℕ → Bool → Step) (C : ℕ → NameRef → Boo
   unfoldable pub each : ℕ → (Held → Found) → Bool → Step
   each p next l h =
       let b = nextAt t (firstAt t p) in
-      let e = guard O.EACH-BEGIN 0 0 (E b l h) in
+      let e = emitJump O.EACH-BEGIN 0 0 (E b l h) in
       let f = next (e .0 .state, e .1) in
       let x = E (nextAt t b) true (still loopEntered (f .0 .state, f .1)) in
       constant (fold (postBits t p) 0) (still loopLeft (eachClosed (e .0 .index) (f .0 .index) x))
@@ -219,10 +219,10 @@ module _ (t : List ℕ) (E : ℕ → Bool → Step) (C : ℕ → NameRef → Boo
     either (ltb (countAt t p) 2) (failed Refusal.FAILED) do
       q ← withPost t p
       E (firstAt t p) l
-      end ← withGuard O.POINTER-ENTER 0 q
+      end ← withJump O.POINTER-ENTER 0 q
       E (nextAt t (firstAt t p)) l
       instr O.POINTER-LEAVE 0 0 q
-      land end
+      placeTarget end
 
   unfoldable pub bracket : ℕ → Bool → Step
   bracket p l = either (eqb (countAt t p) 0) (failed Refusal.FAILED) (E (firstAt t p) l)
@@ -233,14 +233,14 @@ module _ (t : List ℕ) (E : ℕ → Bool → Step) (C : ℕ → NameRef → Boo
     putPost t p op 0 0
 
   -- m terms and the last, from the term at a on
-  unfoldable pub addition : ℕ → ℕ → ℕ → Bool → Step
-  addition p zero a l h = (do
+  unfoldable pub terms : ℕ → ℕ → ℕ → Bool → Step
+  terms p zero a l h = (do
     E a l
     putPost t p O.ADD-LAST 0 0) h
-  addition p (suc m) a l h = (do
+  terms p (suc m) a l h = (do
     E a l
     instr O.ADD-ACC 0 0 0
-    addition p m (nextAt t a) l) h
+    terms p m (nextAt t a) l) h
 
   unfoldable pub add : ℕ → Bool → Step
   add p l =
@@ -253,7 +253,7 @@ module _ (t : List ℕ) (E : ℕ → Bool → Step) (C : ℕ → NameRef → Boo
       do
         E a l
         still pushed
-        addition p (countAt t p - 2) (nextAt t a) l
+        terms p (countAt t p - 2) (nextAt t a) l
         still (popped 1))
 
   unfoldable pub mul : ℕ → Bool → Step
@@ -265,22 +265,22 @@ module _ (t : List ℕ) (E : ℕ → Bool → Step) (C : ℕ → NameRef → Boo
   unfoldable pub div : ℕ → Bool → Step
   div p l = either (ltb (countAt t p) 2) (failed Refusal.FAILED) do
     E (nextAt t (firstAt t p)) l
-    end ← withGuard O.DIV-GUARD (bit (eqb (divisorOf t) 1)) 0
+    end ← withJump O.DIV-GUARD (bit (eqb (divisorOf t) 1)) 0
     still operandEntered
     E (firstAt t p) l
     putPost t p O.DIV 0 0
     still (popped 1)
-    land end
+    placeTarget end
 
   -- m arguments and the last of k, from the one at a on
-  unfoldable pub hosted : ℕ → ℕ → ℕ → ℕ → ℕ → Bool → Step
-  hosted p f k zero a l h = (do
+  unfoldable pub hostArguments : ℕ → ℕ → ℕ → ℕ → ℕ → Bool → Step
+  hostArguments p f k zero a l h = (do
     E a l
     putPost t p O.HOST-MATH k f) h
-  hosted p f k (suc m) a l h = (do
+  hostArguments p f k (suc m) a l h = (do
     E a l
     still pushed
-    hosted p f k m (nextAt t a) l) h
+    hostArguments p f k m (nextAt t a) l) h
 
   unfoldable pub hostMath : ℕ → ℕ → Bool → Step
   hostMath bits p l =
@@ -288,7 +288,7 @@ module _ (t : List ℕ) (E : ℕ → Bool → Step) (C : ℕ → NameRef → Boo
       (do
         still (flagged bits)
         ifMath t p (failed Refusal.FAILED) λ f. either (eqb count 0) (failed Refusal.FAILED) (either (ltb 255 count) (failed Refusal.FAILED) do
-          hosted p f count (count - 1) (firstAt t p) l
+          hostArguments p f count (count - 1) (firstAt t p) l
           still (popped (count - 1))))
 
   -- from the last; n are the children's levels
@@ -310,8 +310,8 @@ module _ (t : List ℕ) (E : ℕ → Bool → Step) (C : ℕ → NameRef → Boo
       ∷ (Operator.SEMICOLON, statements p l h)
       ∷ (Operator.CONDITIONAL, conditional p l h)
       ∷ (Operator.NULL-COALESCING, coalesce p l h)
-      ∷ (Operator.LOGICAL-OR, logical O.OR-STEP O.OR-LAST p l h)
-      ∷ (Operator.LOGICAL-AND, logical O.AND-STEP O.AND-LAST p l h)
+      ∷ (Operator.LOGICAL-OR, logic O.OR-STEP O.OR-LAST p l h)
+      ∷ (Operator.LOGICAL-AND, logic O.AND-STEP O.AND-LAST p l h)
       ∷ (Operator.LOGICAL-NOT-EQUAL, equal Sub.NE p l h)
       ∷ (Operator.LOGICAL-EQUAL, equal Sub.EQ p l h)
       ∷ (Operator.GREATER-THAN, compare Sub.GT p l h)
@@ -376,7 +376,7 @@ start = record {
   refusal = 0;
 }
 
--- the root, and End; a Break or Continue that no loop has aimed leads to the start
+-- the root, and End; a Break or Continue that no loop has breaksResolved leads to the start
 unfoldable pub lowered : List ℕ → List ℕ → Held
 lowered t words = (do
   expr t LEVELS ROOT false

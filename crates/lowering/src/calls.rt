@@ -68,7 +68,7 @@ pub(crate) fn end_argument(ws: &mut [u32], st: State, base: u16, waiting: bool, 
     ensures { λ r. ⌜ _≡_ {A = Held} (r, now (ws .exit)) (argumentClosed base waiting slot (st, now (ws .entry))) ⌝ }
 {
     let s = instr(ws, st, opcodes::END, 0, 0, 0);
-    segments::aim_from(ws, s, 0, 0, 0);
+    segments::resolve_breaks(ws, s, 0, 0, 0);
     let start = s.finished;
     let e = segments::close_segment(ws, s, base, waiting);
     put_start(ws, slot, start);

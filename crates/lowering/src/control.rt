@@ -1,9 +1,9 @@
 // Control: breaks, the ends of loops, a ForEach variable.
 use crate::interning;
 use crate::interning::Entry;
-use crate::parts::guard;
+use crate::parts::emit_jump;
 use crate::parts::instr;
-use crate::parts::land;
+use crate::parts::place_target;
 use answers::refusals;
 use builder::State;
 use builder::segments;
@@ -36,10 +36,10 @@ pub(crate) fn close_loop(ws: &mut [u32], st: State, at: u16) -> State
     ensures { λ r. ⌜ _≡_ {A = Held} (r, now (ws .exit)) (loopClosed at (st, now (ws .entry))) ⌝ }
 {
     let check = segments::place(st);
-    segments::aim_from(ws, st, one_more(at), check as u32, (check as u32) + 1);
+    segments::resolve_breaks(ws, st, one_more(at), check as u32, (check as u32) + 1);
     let s = instr(ws, st, opcodes::LOOP_CHECK, 0, (at as u32) + 1, 0);
     let e = instr(ws, s, opcodes::LOOP_END, 0, 0, 0);
-    land(ws, e, at)
+    place_target(ws, e, at)
 }
 
 // Behind the body of the ForEach whose EachBegin and EachNext stand at `begin` and `next`.
@@ -47,11 +47,11 @@ pub(crate) fn close_each(ws: &mut [u32], st: State, begin: u16, next: u16) -> St
     ensures { λ r. ⌜ _≡_ {A = Held} (r, now (ws .exit)) (eachClosed begin next (st, now (ws .entry))) ⌝ }
 {
     let back = segments::place(st);
-    segments::aim_from(ws, st, one_more(next), next as u32, (back as u32) + 1);
+    segments::resolve_breaks(ws, st, one_more(next), next as u32, (back as u32) + 1);
     let s = instr(ws, st, opcodes::JUMP, 0, next as u32, 0);
-    let t = land(ws, s, next);
+    let t = place_target(ws, s, next);
     let e = instr(ws, t, opcodes::LOOP_END, 0, 0, 0);
-    land(ws, e, begin)
+    place_target(ws, e, begin)
 }
 
 // A ForEach variable's index, by what it is: a variable, a temp, or none where it is refused.
@@ -71,8 +71,8 @@ pub(crate) fn each_next(ws: &mut [u32], st: State, index: EachIndex) -> Entry
     ensures { λ r. ⌜ _≡_ {A = Found} (r, now (ws .exit)) (eachNext index (st, now (ws .entry))) ⌝ }
 {
     match index {
-        EachIndex::Name(n) => guard(ws, st, opcodes::EACH_NEXT_VAR, 0, n.0),
-        EachIndex::Temp(n) => guard(ws, st, opcodes::EACH_NEXT_TEMP, 0, n.0),
+        EachIndex::Name(n) => emit_jump(ws, st, opcodes::EACH_NEXT_VAR, 0, n.0),
+        EachIndex::Temp(n) => emit_jump(ws, st, opcodes::EACH_NEXT_TEMP, 0, n.0),
         EachIndex::Refused => Entry {
             state: st,
             index: segments::place(st),

@@ -2,9 +2,9 @@
 // The table of rules is laid out once for a tree, and lent.
 mod assign;
 mod calls;
+mod comparisons;
 mod control;
 mod interning;
-mod logic;
 mod parts;
 mod pools;
 mod regions;
@@ -21,9 +21,9 @@ use builder::segments;
 use code::segment;
 use control::EachIndex;
 use depth::Depth;
-use parts::guard;
+use parts::emit_jump;
 use parts::instr;
-use parts::land;
+use parts::place_target;
 use parts::post;
 use parts::post_instr;
 use parts::put_post;
@@ -66,7 +66,7 @@ pub fn lower(tree: &[u8], ws: &mut [u32]) -> State
         &table,
     );
     let e = instr(ws, s, opcodes::END, 0, 0, 0);
-    segments::aim_from(ws, e, 0, 0, 0);
+    segments::resolve_breaks(ws, e, 0, 0, 0);
     e
 }
 
@@ -170,7 +170,7 @@ fn expr(
         operators::GREATER_THAN => compare(tree, at, ws, st, subs::GT, looping, n, table),
         operators::LOGICAL_EQUAL => equal(tree, at, ws, st, subs::EQ, looping, n, table),
         operators::LOGICAL_NOT_EQUAL => equal(tree, at, ws, st, subs::NE, looping, n, table),
-        operators::LOGICAL_AND => logical(
+        operators::LOGICAL_AND => logic(
             tree,
             at,
             ws,
@@ -181,7 +181,7 @@ fn expr(
             n,
             table,
         ),
-        operators::LOGICAL_OR => logical(
+        operators::LOGICAL_OR => logic(
             tree,
             at,
             ws,
@@ -193,21 +193,30 @@ fn expr(
             table,
         ),
         operators::NULL_COALESCING => coalesce(tree, at, ws, st, looping, n, table),
-        operators::CONDITIONAL => choose(tree, at, ws, st, looping, n, table),
-        operators::SEMICOLON => block(tree, at, ws, st, looping, n, table),
+        operators::CONDITIONAL => conditional(tree, at, ws, st, looping, n, table),
+        operators::SEMICOLON => statements(tree, at, ws, st, looping, n, table),
         operators::LOOP => repeat(tree, at, ws, st, looping, n, table),
         operators::FOR_EACH => for_each(tree, at, ws, st, looping, n, table),
         operators::ASSIGNMENT => assignment(tree, at, ws, st, looping, n, table),
-        operators::POINTER => arrow(tree, at, ws, st, looping, n, table),
-        operators::LEFT_BRACKET => inner(tree, at, ws, st, looping, n, table),
-        operators::LEFT_PARENTHESIS => inner(tree, at, ws, st, looping, n, table),
+        operators::POINTER => pointer(tree, at, ws, st, looping, n, table),
+        operators::LEFT_BRACKET => par(tree, at, ws, st, looping, n, table),
+        operators::LEFT_PARENTHESIS => par(tree, at, ws, st, looping, n, table),
         operators::NEGATE => unary(tree, at, ws, st, opcodes::NEGATE, looping, n, table),
         operators::LOGICAL_NOT => unary(tree, at, ws, st, opcodes::NOT, looping, n, table),
         operators::ADD => add(tree, at, ws, st, looping, n, table),
         operators::MUL => mul(tree, at, ws, st, looping, n, table),
         operators::DIV => div(tree, at, ws, st, looping, n, table),
-        operators::HOST_MATH => math(tree, at, ws, st, 0, looping, n, table),
-        operators::HOST_MATH_VOLATILE => math(tree, at, ws, st, Flags::RANDOM, looping, n, table),
+        operators::HOST_MATH => host_math(tree, at, ws, st, 0, looping, n, table),
+        operators::HOST_MATH_VOLATILE => host_math(
+            tree,
+            at,
+            ws,
+            st,
+            Flags::RANDOM,
+            looping,
+            n,
+            table,
+        ),
         _ => leaf(tree, at, ws, st, looping, rule),
     }
 }
@@ -342,12 +351,12 @@ fn assignment(
         return builder::failed(ws, st, refused);
     }
     let s = flag(st, Flags::HAS_ASSIGNMENT);
-    let t = value(tree, at, target, ws, s, looping, levels, table);
+    let t = rhs(tree, at, target, ws, s, looping, levels, table);
     assign::store(tree, target, at, ws, t, levels)
 }
 
 // The second child, or the node's constant.
-fn value(
+fn rhs(
     tree: &[u8],
     at: usize,
     first: usize,
@@ -418,7 +427,7 @@ fn compare(
     let a = tree::first_at(tree, at);
     if count == 1 {
         let t = expr(tree, a, ws, s, looping, levels, table);
-        return logic::compare_const(tree, at, ws, t, o, q);
+        return comparisons::compare_const(tree, at, ws, t, o, q);
     }
     let t = binary(tree, a, ws, s, looping, levels, table);
     let u = instr(ws, t, opcodes::CMP, o, 0, q.0);
@@ -448,15 +457,15 @@ fn equal(
     let a = tree::first_at(tree, at);
     if count == 1 {
         let t = expr(tree, a, ws, s, looping, levels, table);
-        return logic::equal_const(tree, at, ws, t, o, q);
+        return comparisons::equal_const(tree, at, ws, t, o, q);
     }
     let t = binary(tree, a, ws, s, looping, levels, table);
     let u = instr(ws, t, opcodes::EQ, o, 0, q.0);
     pop(u, 1)
 }
 
-// logic in the Rust: `&&` and `||`; every operand but the last can lead behind the last.
-fn logical(
+// `&&` and `||`; every operand but the last can lead behind the last.
+fn logic(
     tree: &[u8],
     at: usize,
     ws: &mut [u32],
@@ -468,7 +477,7 @@ fn logical(
     table: &[u8; 256],
 ) -> State
     requires { ⌜ HasRules (now table) ⌝ }
-    ensures { λ r. ⌜ _≡_ {A = Held} (r, now (ws .exit)) (R.under (now (tree .entry)) levels (R.logical (now (tree .entry))) step last at looping (st, now (ws .entry))) ⌝ }
+    ensures { λ r. ⌜ _≡_ {A = Held} (r, now (ws .exit)) (R.under (now (tree .entry)) levels (R.logic (now (tree .entry))) step last at looping (st, now (ws .entry))) ⌝ }
 {
     let count = tree::count_at(tree, at);
     if count == 0 {
@@ -477,7 +486,7 @@ fn logical(
     let e = post(tree, at, ws, st);
     let s = e.state;
     let q = e.index;
-    join(
+    ops(
         tree,
         tree::first_at(tree, at),
         ws,
@@ -493,7 +502,7 @@ fn logical(
 }
 
 // `m` steps and the last operand, from the operand at `a` on; every step leads behind the last.
-fn join(
+fn ops(
     tree: &[u8],
     a: usize,
     ws: &mut [u32],
@@ -507,15 +516,15 @@ fn join(
     table: &[u8; 256],
 ) -> State
     requires { ⌜ HasRules (now table) ⌝ }
-    ensures { λ r. ⌜ _≡_ {A = Held} (r, now (ws .exit)) (R.under (now (tree .entry)) levels (R.junction (now (tree .entry))) step last (q .0) m a looping (st, now (ws .entry))) ⌝ }
+    ensures { λ r. ⌜ _≡_ {A = Held} (r, now (ws .exit)) (R.under (now (tree .entry)) levels (R.operands (now (tree .entry))) step last (q .0) m a looping (st, now (ws .entry))) ⌝ }
 {
     let s = expr(tree, a, ws, st, looping, levels, table);
     if m == 0 {
         return instr(ws, s, last, 0, 0, q.0);
     }
-    let e = guard(ws, s, step, 0, q.0);
+    let e = emit_jump(ws, s, step, 0, q.0);
     let t = e.state;
-    let u = join(
+    let u = ops(
         tree,
         tree::next_at(tree, a),
         ws,
@@ -528,13 +537,13 @@ fn join(
         levels,
         table,
     );
-    land(ws, u, e.index)
+    place_target(ws, u, e.index)
 }
 
 // ---- arithmetic
 
 // Brackets: the first child.
-fn inner(
+fn par(
     tree: &[u8],
     at: usize,
     ws: &mut [u32],
@@ -638,7 +647,7 @@ fn terms(
     table: &[u8; 256],
 ) -> State
     requires { ⌜ HasRules (now table) ⌝ }
-    ensures { λ r. ⌜ _≡_ {A = Held} (r, now (ws .exit)) (R.under (now (tree .entry)) levels (R.addition (now (tree .entry))) at m a looping (st, now (ws .entry))) ⌝ }
+    ensures { λ r. ⌜ _≡_ {A = Held} (r, now (ws .exit)) (R.under (now (tree .entry)) levels (R.terms (now (tree .entry))) at m a looping (st, now (ws .entry))) ⌝ }
 {
     let mut s = st;
     let mut term = a;
@@ -708,17 +717,17 @@ fn div(
     }
     let a = tree::first_at(tree, at);
     let s = expr(tree, tree::next_at(tree, a), ws, st, looping, levels, table);
-    let e = guard(ws, s, opcodes::DIV_GUARD, divisor(tree), 0);
+    let e = emit_jump(ws, s, opcodes::DIV_GUARD, divisor(tree), 0);
     let g = e.state;
     let t = steps::operand(g);
     let u = expr(tree, a, ws, t, looping, levels, table);
     let v = put_post(tree, at, ws, u, opcodes::DIV, 0, 0);
     let w = pop(v, 1);
-    land(ws, w, e.index)
+    place_target(ws, w, e.index)
 }
 
-// host_math in the Rust: every argument but the last pushed, in order.
-fn math(
+// Every argument but the last pushed, in order.
+fn host_math(
     tree: &[u8],
     at: usize,
     ws: &mut [u32],
@@ -743,7 +752,7 @@ fn math(
     if count > 255 {
         return builder::failed(ws, s, refusals::FAILED);
     }
-    let t = hosted(
+    let t = host(
         tree,
         at,
         ws,
@@ -759,7 +768,7 @@ fn math(
 }
 
 // `m` arguments and the last of `k`, from the first on.
-fn hosted(
+fn host(
     tree: &[u8],
     at: usize,
     ws: &mut [u32],
@@ -772,7 +781,7 @@ fn hosted(
     table: &[u8; 256],
 ) -> State
     requires { ⌜ HasRules (now table) ⌝ }
-    ensures { λ r. ⌜ _≡_ {A = Held} (r, now (ws .exit)) (R.under (now (tree .entry)) levels (R.hosted (now (tree .entry))) at f k m (firstAt (now (tree .entry)) at) looping (st, now (ws .entry))) ⌝ }
+    ensures { λ r. ⌜ _≡_ {A = Held} (r, now (ws .exit)) (R.under (now (tree .entry)) levels (R.hostArguments (now (tree .entry))) at f k m (firstAt (now (tree .entry)) at) looping (st, now (ws .entry))) ⌝ }
 {
     let mut s = st;
     let mut argument = tree::first_at(tree, at);
@@ -789,8 +798,8 @@ fn hosted(
 
 // ---- calls
 
-// pointer in the Rust: the second child between PointerEnter, behind the first, and PointerLeave.
-fn arrow(
+// The second child between PointerEnter, behind the first, and PointerLeave.
+fn pointer(
     tree: &[u8],
     at: usize,
     ws: &mut [u32],
@@ -811,11 +820,11 @@ fn arrow(
     let q = p.index;
     let a = tree::first_at(tree, at);
     let t = expr(tree, a, ws, x, looping, levels, table);
-    let e = guard(ws, t, opcodes::POINTER_ENTER, 0, q.0);
+    let e = emit_jump(ws, t, opcodes::POINTER_ENTER, 0, q.0);
     let g = e.state;
     let u = expr(tree, tree::next_at(tree, a), ws, g, looping, levels, table);
     let v = instr(ws, u, opcodes::POINTER_LEAVE, 0, 0, q.0);
-    land(ws, v, e.index)
+    place_target(ws, v, e.index)
 }
 
 fn query(tree: &[u8], at: usize, ws: &mut [u32], st: State, levels: u16, table: &[u8; 256]) -> State
@@ -831,7 +840,7 @@ fn query(tree: &[u8], at: usize, ws: &mut [u32], st: State, levels: u16, table: 
     let first = s.arguments;
     let e = calls::begin_call(ws, s, q.index, q.impl_idx, count);
     let g = e.state;
-    let t = passed(
+    let t = segs(
         tree,
         ws,
         g,
@@ -845,7 +854,7 @@ fn query(tree: &[u8], at: usize, ws: &mut [u32], st: State, levels: u16, table: 
 }
 
 // Each argument is a segment of its own, without loops; its start goes to its slot.
-fn passed(
+fn segs(
     tree: &[u8],
     ws: &mut [u32],
     st: State,
@@ -893,21 +902,21 @@ fn coalesce(
         return builder::failed(ws, st, refusals::FAILED);
     }
     let a = tree::first_at(tree, at);
-    let e = guard(ws, st, opcodes::HANDLER_PUSH, 0, 0);
+    let e = emit_jump(ws, st, opcodes::HANDLER_PUSH, 0, 0);
     let g = e.state;
     let s = steps::enter_handler(g);
     let t = expr(tree, a, ws, s, looping, levels, table);
     let u = steps::leave_handler(t);
-    let f = guard(ws, u, opcodes::HANDLER_POP, 0, 0);
+    let f = emit_jump(ws, u, opcodes::HANDLER_POP, 0, 0);
     let i = f.state;
-    let v = land(ws, i, e.index);
+    let v = place_target(ws, i, e.index);
     let w = expr(tree, tree::next_at(tree, a), ws, v, looping, levels, table);
-    let x = land(ws, w, f.index);
+    let x = place_target(ws, w, f.index);
     post_instr(tree, at, ws, x)
 }
 
 // The third child, or 0.0.
-fn other(
+fn alt(
     tree: &[u8],
     at: usize,
     second: usize,
@@ -918,7 +927,7 @@ fn other(
     table: &[u8; 256],
 ) -> State
     requires { ⌜ HasRules (now table) ⌝ }
-    ensures { λ r. ⌜ _≡_ {A = Held} (r, now (ws .exit)) (R.under (now (tree .entry)) levels (R.otherwise (now (tree .entry))) at second looping (st, now (ws .entry))) ⌝ }
+    ensures { λ r. ⌜ _≡_ {A = Held} (r, now (ws .exit)) (R.under (now (tree .entry)) levels (R.alternative (now (tree .entry))) at second looping (st, now (ws .entry))) ⌝ }
 {
     if tree::count_at(tree, at) < 3 {
         return interning::constant(ws, st, 0);
@@ -934,8 +943,8 @@ fn other(
     )
 }
 
-// conditional in the Rust: the second child, or the third.
-fn choose(
+// The second child, or the third.
+fn conditional(
     tree: &[u8],
     at: usize,
     ws: &mut [u32],
@@ -953,19 +962,19 @@ fn choose(
     let a = tree::first_at(tree, at);
     let b = tree::next_at(tree, a);
     let s = expr(tree, a, ws, st, looping, levels, table);
-    let e = guard(ws, s, opcodes::JUMP_IF_FALSY, 0, 0);
+    let e = emit_jump(ws, s, opcodes::JUMP_IF_FALSY, 0, 0);
     let g = e.state;
     let t = expr(tree, b, ws, g, looping, levels, table);
-    let f = guard(ws, t, opcodes::JUMP, 0, 0);
+    let f = emit_jump(ws, t, opcodes::JUMP, 0, 0);
     let i = f.state;
-    let u = land(ws, i, e.index);
-    let v = other(tree, at, b, ws, u, looping, levels, table);
-    let w = land(ws, v, f.index);
+    let u = place_target(ws, i, e.index);
+    let v = alt(tree, at, b, ws, u, looping, levels, table);
+    let w = place_target(ws, v, f.index);
     post_instr(tree, at, ws, w)
 }
 
-// statements in the Rust: each statement, and the constant of the list behind the last.
-fn block(
+// Each statement, and the constant of the list behind the last.
+fn statements(
     tree: &[u8],
     at: usize,
     ws: &mut [u32],
@@ -1058,7 +1067,7 @@ fn repeat(
     }
     let a = tree::first_at(tree, at);
     let t = expr(tree, a, ws, s, looping, levels, table);
-    let e = guard(ws, t, opcodes::LOOP_BEGIN, 0, 0);
+    let e = emit_jump(ws, t, opcodes::LOOP_BEGIN, 0, 0);
     let g = e.state;
     let u = steps::enter_loop(steps::operand(g));
     let v = expr(tree, tree::next_at(tree, a), ws, u, true, levels, table);
@@ -1108,7 +1117,7 @@ fn each(
 {
     let b = tree::next_at(tree, tree::first_at(tree, at));
     let s = expr(tree, b, ws, st, looping, levels, table);
-    let e = guard(ws, s, opcodes::EACH_BEGIN, 0, 0);
+    let e = emit_jump(ws, s, opcodes::EACH_BEGIN, 0, 0);
     let g = e.state;
     let f = control::each_next(ws, g, k);
     let i = f.state;

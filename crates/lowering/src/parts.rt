@@ -19,7 +19,7 @@ ghost use Rattle.builder.specs.Steps.{Held};
 ghost use Rattle.lowering.specs.Pools as B;
 ghost use Rattle.lowering.specs.Pools.{Found};
 ghost use Rattle.lowering.specs.Kinds.{ofConst, ofHash, ofName, ofTemp, ofMember, ofStore, ofPost};
-ghost use Rattle.lowering.specs.Parts.{front, instr, going, postBits, putPost, postInstr, guard, land};
+ghost use Rattle.lowering.specs.Parts.{front, instr, going, postBits, putPost, postInstr, emitJump, placeTarget};
 
 fn front(op: u8, sub: u8, b: u16) -> u32
     ensures { λ r. ⌜ r ≡ front op sub b ⌝ }
@@ -137,8 +137,8 @@ pub(crate) fn post_instr(tree: &[u8], at: usize, ws: &mut [u32], st: State) -> S
 }
 
 // An instruction whose target is not known yet, and its place in the open segment.
-pub(crate) fn guard(ws: &mut [u32], st: State, op: u8, sub: u8, b: u16) -> Entry
-    ensures { λ r. ⌜ _≡_ {A = Found} (r, now (ws .exit)) (guard op sub b (st, now (ws .entry))) ⌝ }
+pub(crate) fn emit_jump(ws: &mut [u32], st: State, op: u8, sub: u8, b: u16) -> Entry
+    ensures { λ r. ⌜ _≡_ {A = Found} (r, now (ws .exit)) (emitJump op sub b (st, now (ws .entry))) ⌝ }
 {
     let s = builder::flush(ws, st);
     let at = builder::segments::place(s);
@@ -150,8 +150,8 @@ pub(crate) fn guard(ws: &mut [u32], st: State, op: u8, sub: u8, b: u16) -> Entry
 }
 
 // The target of the instruction at that place is the next one.
-pub(crate) fn land(ws: &mut [u32], st: State, at: u16) -> State
-    ensures { λ r. ⌜ _≡_ {A = Held} (r, now (ws .exit)) (land at (st, now (ws .entry))) ⌝ }
+pub(crate) fn place_target(ws: &mut [u32], st: State, at: u16) -> State
+    ensures { λ r. ⌜ _≡_ {A = Held} (r, now (ws .exit)) (placeTarget at (st, now (ws .entry))) ⌝ }
 {
     let to = builder::segments::place(st);
     builder::segments::set_target(ws, st, at, to as u32);

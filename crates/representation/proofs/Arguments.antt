@@ -140,7 +140,7 @@ module _ {tree : List ℕ} {c : Counts} where
       let q3 = ended-fits c f A q in
       let g2 = L.instr 48 0 0 0 g1 in
       let r3 = puts end end-word (A .outer ++ A .code) (x .code) (A .open-calls) (x .state) g1 q3 r2 in
-      let g3 : Held = (g2 .0, T.aimed (g2 .0) 0 0 0 (g2 .1)) in
+      let g3 : Held = (g2 .0, T.breaksResolved (g2 .0) 0 0 0 (g2 .1)) in
       let r4 = aim-at (A .outer ++ A .code) [] (codeOf f c (A .state)) false (A .open-calls) (x .state) g2 0 0 0 refl q3 r3 in
       let r5 = close-keep (A .outer) (A .code) (codeOf f c (A .state)) (A .wait) (A .open-calls) (x .state) base g3 eb q r4 in
       let v = g2 .0 .finished in

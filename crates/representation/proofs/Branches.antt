@@ -126,7 +126,7 @@ module _ {tree : List ℕ} {c : Counts} where
       subst (λ (B : Abs). Content tree u (F (U (guarding op sub b h))) B) e3 (d .keep (G2 (A .outer) K (A .open-calls) (A .state) i u f) (U (guarding op sub b h)) q3 r2)
 
   pub guarded-does : (g : Guard) (up : Counts → Counts) {f : Lowering} {F U D : Step} {op sub b : ℕ} → Leads (guard g) op sub b → Moves tree (onState (raise (up c))) c (up c) U → Does tree f (up c) F → Moves tree (λ A. A) (up c) c D
-      → Does tree (guarded g up f) c (λ h. L.land (L.guard op sub b h .0 .index) (D (F (U (guarding op sub b h)))))
+      → Does tree (guarded g up f) c (λ h. L.placeTarget (L.emitJump op sub b h .0 .index) (D (F (U (guarding op sub b h)))))
   guarded-does g up {f} {F} {U} {D} {op} {sub} {b} e mu d md = record {
     back = λ A q.
         let K = flushedCode (A .wait) (A .code) in
@@ -141,8 +141,8 @@ module _ {tree : List ℕ} {c : Counts} where
         let y = D (F (U (guarding op sub b h))) in
         let r3 = md .keep (G3 (A .outer) K (A .open-calls) (A .state) (guard g) (up c) f) (F (U (guarding op sub b h))) q3 (guard-keep (guard g) (up c) e mu d A h q3 r) in
         let r4 = land-at (A .outer) K (X .code) (instr (guard g 0)) (instr (guard g t)) false (A .open-calls) (X .state) y (lead-front e t ∙ sym (lead-front e 0)) (lead-back e t ∙ sym (behind-is (A .outer) K (A .open-calls) (A .state) (guard g) (up c) f)) q3 r3 in
-        subst (λ (B : Abs). Content tree c (L.land (L.guard op sub b h .0 .index) y) B) (sym (whole A))
-        (subst (λ (n : ℕ). Content tree c (L.land n y) (mk (A .outer) (K ++ (instr (guard g t) ∷ X .code)) false (A .open-calls) (X .state))) (sym (guard-place op sub b q0 r)) r4);
+        subst (λ (B : Abs). Content tree c (L.placeTarget (L.emitJump op sub b h .0 .index) y) B) (sym (whole A))
+        (subst (λ (n : ℕ). Content tree c (L.placeTarget n y) (mk (A .outer) (K ++ (instr (guard g t) ∷ X .code)) false (A .open-calls) (X .state))) (sym (guard-place op sub b q0 r)) r4);
   }
     where
       whole : (A : Abs) → let K = flushedCode (A .wait) (A .code) in run (guarded g up f) c A ≡ mk (A .outer) (K ++ (instr (guard g (behind (A .outer) K (A .open-calls) (A .state) (guard g) (up c) f)) ∷ x (A .outer) K (A .open-calls) (A .state) (guard g) (up c) f .code)) false (A .open-calls) (x (A .outer) K (A .open-calls) (A .state) (guard g) (up c) f .state)

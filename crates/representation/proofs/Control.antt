@@ -19,7 +19,7 @@ use Rattle.semantics.specs.Run.{handler+, same, opens}
 use Rattle.ast.specs.Rules.{ruleAt}
 use Rattle.semantics.specs.State as S
 use Rattle.semantics.specs.Payloads as P
-use Rattle.semantics.specs.Pieces.{Lowering, put, failing, flagged, withName, withTemp, withPost, constant, postInstruction, fork, looped, eached, _⨾_}
+use Rattle.semantics.specs.Pieces.{Lowering, put, failing, flagged, withName, withTemp, withPost, constant, postInstruction, fork, countedLoop, eached, _⨾_}
 use Rattle.semantics.specs.Lowering as D
 use Rattle.semantics.specs.Lowering.{Lowerings}
 use Rattle.payload.specs.declared.NameRef.{NameRef}
@@ -108,7 +108,7 @@ module _ (tree : List ℕ) (E : ℕ → Bool → Step) (C : ℕ → NameRef → 
         (λ a b ca cb. thens (fork-does N.handlerPush N.handlerPop handler+ push-leads pop-leads handler-move (ca .expr-is l (handler+ c)) handler-left (cb .expr-is l c)) (post-behind p))
 
     pub conditional-does : Does tree (P.some xs (failing 7) λ a ys. P.some ys (failing 7) λ b zs. a .expr l ⨾ fork (N.guard N.jumpIfFalsy) N.jump same (b .expr l) (P.one zs (constant 0) λ c. c .expr l) ⨾ postInstruction (L.postBits tree p)) c (R.conditional tree E C Z p l)
-    unfolding R.conditional R.otherwise
+    unfolding R.conditional R.alternative
     conditional-does = pair-rel tree E C Z c (failing 7) (failing-does 7) (λ a b zs. a .expr l ⨾ fork (N.guard N.jumpIfFalsy) N.jump same (b .expr l) (P.one zs (constant 0) λ c. c .expr l) ⨾ postInstruction (L.postBits tree p)) xs (countAt tree p) (firstAt tree p) k
         (λ a b zs j e ca cb ks. thens (ca .expr-is l c) (thens (fork-does (N.guard N.jumpIfFalsy) N.jump same falsy-leads jump-leads same-move (cb .expr-is l c) nothing-move
         (subst (λ (t : Bool). Does tree (P.one zs (constant 0) λ c. c .expr l) c (λ h. cond t (B.constant 0 h) (E (nextAt tree (nextAt tree (firstAt tree p))) l h))) (two-left (countAt tree p) j e) (one-rel tree E C Z c (constant 0) (constant-does 0) (λ c. c .expr l) zs j (nextAt tree (nextAt tree (firstAt tree p))) ks (λ a cc. cc .expr-is l c)))) (post-behind p)))
@@ -121,14 +121,14 @@ module _ (tree : List ℕ) (E : ℕ → Bool → Step) (C : ℕ → NameRef → 
     unfolding D.returning R.ret
     return-does = thens (one-rel tree E C Z c (constant 0) (constant-does 0) (λ a. a .expr l) xs (countAt tree p) (firstAt tree p) k (λ a ca. ca .expr-is l c)) (put-post p (λ q. N.return q) 46 0 0 return-word)
 
-    pub loop-rule : Does tree (flagged (S.sets HAS-LOOPS) (P.two xs (failing 7) λ a b. a .expr l ⨾ looped (b .expr true) ⨾ constant (fold (L.postBits tree p) 0))) c (R.countedLoop tree E C Z p l)
+    pub loop-rule : Does tree (flagged (S.sets HAS-LOOPS) (P.two xs (failing 7) λ a b. a .expr l ⨾ countedLoop (b .expr true) ⨾ constant (fold (L.postBits tree p) 0))) c (R.countedLoop tree E C Z p l)
     unfolding R.countedLoop
-    loop-rule = flagged-does (S.sets HAS-LOOPS) (Y.flagged 64) (sets-move 64) (two-rel tree E C Z c (failing 7) (failing-does 7) (λ a b. a .expr l ⨾ looped (b .expr true) ⨾ constant (fold (L.postBits tree p) 0)) xs (countAt tree p) (firstAt tree p) k
+    loop-rule = flagged-does (S.sets HAS-LOOPS) (Y.flagged 64) (sets-move 64) (two-rel tree E C Z c (failing 7) (failing-does 7) (λ a b. a .expr l ⨾ countedLoop (b .expr true) ⨾ constant (fold (L.postBits tree p) 0)) xs (countAt tree p) (firstAt tree p) k
         (λ a b ca cb. thens (ca .expr-is l c) (thens (loop-does (cb .expr-is true (opens true c))) (constant-does (fold (L.postBits tree p) 0)))))
 
     -- behind the variable
     each-body : {b e : Lowerings} (i : N.EachNext) (op v : ℕ) → Leads (N.eachNext i) op 0 v → Child tree E C Z b (nextAt tree (firstAt tree p)) → Child tree E C Z e (nextAt tree (nextAt tree (firstAt tree p)))
-        → Does tree (b .expr l ⨾ eached i (e .expr true) ⨾ constant (fold (L.postBits tree p) 0)) c (R.each tree E C Z p (L.guard op 0 v) l)
+        → Does tree (b .expr l ⨾ eached i (e .expr true) ⨾ constant (fold (L.postBits tree p) 0)) c (R.each tree E C Z p (L.emitJump op 0 v) l)
     unfolding R.each
     each-body i op v leads cb ce = thens (cb .expr-is l c) (thens (each-does i leads (ce .expr-is true (opens false c))) (constant-does (fold (L.postBits tree p) 0)))
 

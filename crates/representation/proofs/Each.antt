@@ -1,4 +1,4 @@
--- ForEach: EachBegin, EachNext, the body with its Breaks and Continues aimed, the Jump back, LoopEnd. Assumes nothing.
+-- ForEach: EachBegin, EachNext, the body with its Breaks and Continues breaksResolved, the Jump back, LoopEnd. Assumes nothing.
 use mathlib.Core.Path.{_≡_, refl, sym, ap, subst, _∙_}
 use mathlib.Core.Bool.{Bool, true, false}
 use mathlib.Core.List.{List, [], _∷_, _++_, map, append-assoc}
@@ -151,28 +151,28 @@ module _ {tree : List ℕ} (c : Counts) where
       let l0 = length-append k (instr (eachBegin 0) ∷ []) in
       let pk = past-length k in
       let a2 = at-h2 o k os st i f c in
-      let g : Held = (h .0, T.aimed (h .0) (after to) to (pl + 1) (h .1)) in
+      let g : Held = (h .0, T.breaksResolved (h .0) (after to) to (pl + 1) (h .1)) in
       let r4 : Content tree (opens false c) g (mk o (h2 ++ bd) false os s) =
-      subst (λ (m : ℕ). Content tree (opens false c) (h .0, T.aimed (h .0) (after to) m (pl + 1) (h .1)) (mk o (h2 ++ bd) false os s)) (sym et)
-      (subst (λ (m : ℕ). Content tree (opens false c) (h .0, T.aimed (h .0) (after to) (suc (past k 0)) m (h .1)) (mk o (h2 ++ bd) false os s)) (sym e4)
+      subst (λ (m : ℕ). Content tree (opens false c) (h .0, T.breaksResolved (h .0) (after to) m (pl + 1) (h .1)) (mk o (h2 ++ bd) false os s)) (sym et)
+      (subst (λ (m : ℕ). Content tree (opens false c) (h .0, T.breaksResolved (h .0) (after to) (suc (past k 0)) m (h .1)) (mk o (h2 ++ bd) false os s)) (sym e4)
       (aim-at o h2 (X .code) false os s h (after to) (suc (past k 0)) (suc bk) (omega (arith, a2, et, pk, fc, l2, l1, l0)) (fit-3 o k os st i f c q) r)) in
       let r5 = puts (jump (suc (past k 0))) (jump-word to (suc (past k 0)) et) o (h2 ++ bd) os s g (fit-j0 o k os st i f c q) r4 in
       let w5 = L.instr 32 0 to 0 g in
       let j = j-is o k os st i f c in
       let r6 = land-at o (H1 o k os st i f c) (bd ++ (instr (jump (suc (past k 0))) ∷ [])) (instr (eachNext i 0)) (instr (eachNext i (suc bk))) false os s w5 (lead-front ei (suc bk) ∙ sym (lead-front ei 0)) (lead-back ei (suc bk) ∙ sym (at-j o k os st i f c)) (subst (λ (l : List Item). Fits (mk o l false os s)) j (fit-j0 o k os st i f c q)) (subst (λ (l : List Item). Content tree (opens false c) w5 (mk o l false os s)) j r5) in
-      let r6′ = subst (λ (m : ℕ). Content tree (opens false c) (L.land m w5) (mk o (J′ o k os st i f c) false os s)) (at-h1 o k os st i f c ∙ sym et) r6 in
-      let w6 = L.land to w5 in
+      let r6′ = subst (λ (m : ℕ). Content tree (opens false c) (L.placeTarget m w5) (mk o (J′ o k os st i f c) false os s)) (at-h1 o k os st i f c ∙ sym et) r6 in
+      let w6 = L.placeTarget to w5 in
       let r7 = puts loopEnd end-word o (J′ o k os st i f c) os s w6 (fit-z o k os st i f c q) r6′ in
       let w7 = L.instr 42 0 0 0 w6 in
       let z = z-is o k os st i f c in
       let r8 = land-at o k (instr (eachNext i (suc bk)) ∷ tail o k os st i f c) (instr (eachBegin 0)) (instr (eachBegin (suc (suc bk)))) false os s w7 (lead-front each-leads (suc (suc bk)) ∙ sym (lead-front each-leads 0)) (lead-back each-leads (suc (suc bk)) ∙ sym (at-z o k os st i f c)) (subst (λ (l : List Item). Fits (mk o l false os s)) z (fit-z o k os st i f c q)) (subst (λ (l : List Item). Content tree (opens false c) w7 (mk o l false os s)) z r7) in
-      subst (λ (m : ℕ). Content tree (opens false c) (L.land m w7) (mk o (final o k os st i f c) false os s)) (sym ea) r8
+      subst (λ (m : ℕ). Content tree (opens false c) (L.placeTarget m w7) (mk o (final o k os st i f c) false os s)) (sym ea) r8
 
 module _ {tree : List ℕ} {c : Counts} where
   pub each-does : (i : EachNext) {f : Lowering} {F : Step} {op v : ℕ} → Leads (eachNext i) op 0 v → Does tree f (opens false c) F
       → Does tree (eached i f) c (λ h.
       let g = guarding 43 0 0 h in
-      still Y.loopLeft (L.eachClosed (L.guard 43 0 0 h .0 .index) (L.guard op 0 v g .0 .index) (F (still Y.loopEntered (guarding op 0 v g)))))
+      still Y.loopLeft (L.eachClosed (L.emitJump 43 0 0 h .0 .index) (L.emitJump op 0 v g .0 .index) (F (still Y.loopEntered (guarding op 0 v g)))))
   unfolding flushedCode
   each-does i {f} {F} {op} {v} ei d = record {
     back = λ A q.
@@ -199,12 +199,12 @@ module _ {tree : List ℕ} {c : Counts} where
         let r1 = guards eachBegin each-leads .keep A h q1 r in
         let r2 = guards (eachNext i) ei .keep A1 g1 q2 r1 in
         let n1 = guard-place {A = A} {h = h} 43 0 0 q0 r in
-        let n2 : L.guard op 0 v g1 .0 .index ≡ suc (past k 0) = guard-place {A = A1} {h = g1} op 0 v q1 r1 ∙ at-h1 o k os st i f c in
+        let n2 : L.emitJump op 0 v g1 .0 .index ≡ suc (past k 0) = guard-place {A = A1} {h = g1} op 0 v q1 r1 ∙ at-h1 o k os st i f c in
         let z = F (still Y.loopEntered g2) in
         let r3 = each-move .keep A2 g2 (d .back _ q3) r2 in
         let r4 = subst (λ (B : Abs). Content tree (opens false c) z B) e3 (d .keep _ (still Y.loopEntered g2) q3 r3) in
-        let r8 = each-keep c o k os st i f ei (L.guard 43 0 0 h .0 .index) (L.guard op 0 v g1 .0 .index) z n1 n2 q8 r4 in
-        let y = L.eachClosed (L.guard 43 0 0 h .0 .index) (L.guard op 0 v g1 .0 .index) z in
+        let r8 = each-keep c o k os st i f ei (L.emitJump 43 0 0 h .0 .index) (L.emitJump op 0 v g1 .0 .index) z n1 n2 q8 r4 in
+        let y = L.eachClosed (L.emitJump 43 0 0 h .0 .index) (L.emitJump op 0 v g1 .0 .index) z in
         subst (λ (B : Abs). Content tree c (still Y.loopLeft y) B) (sym (whole A)) (each-left .keep _ y q8 r8);
   }
     where

@@ -83,7 +83,7 @@ module _ {tree : List ℕ} {c : Counts} where
       → Moves tree (onState (raise (up c))) c (up c) U → Does tree f (up c) F → Moves tree (λ A. A) (up c) c D → Does tree g c K
       → Does tree (fork i j up f g) c (λ h.
       let z = D (F (U (guarding op sub b h))) in
-      L.land (L.guard op′ sub′ b′ z .0 .index) (K (L.land (L.guard op sub b h .0 .index) (guarding op′ sub′ b′ z))))
+      L.placeTarget (L.emitJump op′ sub′ b′ z .0 .index) (K (L.placeTarget (L.emitJump op sub b h .0 .index) (guarding op′ sub′ b′ z))))
   unfolding flushedCode
   fork-does i j up {f} {g} {F} {K} {U} {D} {op} {sub} {b} {op′} {sub′} {b′} ei ej mu d md dg = record {
     back = λ A q.
@@ -118,16 +118,16 @@ module _ {tree : List ℕ} {c : Counts} where
         let r3 : Content tree c z (F3 o k os st i j up f g c) = md .keep (F3 o k os st i j up f g c) z0 q3 (B.guard-keep i (up c) ei mu d A h q3 r) in
         let r4 : Content tree c (guarding op′ sub′ b′ z) (F4 o k os st i j up f g c) = subst (λ (B : Abs). Content tree c (guarding op′ sub′ b′ z) B) (step4 o k os st i j up f g c) (guards j ej .keep (F3 o k os st i j up f g c) z q4′ r3) in
         let n1 = guard-place {A = A} {h = h} op sub b q0 r in
-        let n2 : L.guard op′ sub′ b′ z .0 .index ≡ past (F3 o k os st i j up f g c .code) 0 = guard-place {A = F3 o k os st i j up f g c} {h = z} op′ sub′ b′ q3 r3 in
+        let n2 : L.emitJump op′ sub′ b′ z .0 .index ≡ past (F3 o k os st i j up f g c .code) 0 = guard-place {A = F3 o k os st i j up f g c} {h = z} op′ sub′ b′ q3 r3 in
         let w = guarding op′ sub′ b′ z in
         let r5 = land-at o k (X .code ++ (instr (j 0) ∷ [])) (instr (i 0)) (instr (i (suc M))) false os (X .state) w (lead-front ei (suc M) ∙ sym (lead-front ei 0)) (lead-back ei (suc M) ∙ sym (pos4 o k os st i j up f g c)) q4 r4 in
-        let r5′ = subst (λ (n : ℕ). Content tree c (L.land n w) (F5 o k os st i j up f g c)) (sym n1) r5 in
-        let v = L.land (L.guard op sub b h .0 .index) w in
+        let r5′ = subst (λ (n : ℕ). Content tree c (L.placeTarget n w) (F5 o k os st i j up f g c)) (sym n1) r5 in
+        let v = L.placeTarget (L.emitJump op sub b h .0 .index) w in
         let r6 = subst (λ (B : Abs). Content tree c (K v) B) e6 (dg .keep (F5 o k os st i j up f g c) v q6′ r5′) in
         let r7 = land-at o (before o k os st i j up f g c) (Y .code) (instr (j 0)) (instr (j E)) false os (Y .state) (K v) (lead-front ej E ∙ sym (lead-front ej 0)) (lead-back ej E ∙ sym (pos6 o k os st i j up f g c)) q6 r6 in
-        let n3 : L.guard op′ sub′ b′ z .0 .index ≡ past (before o k os st i j up f g c) 0 = n2 ∙ B.behind-is o k os st i (up c) f ∙ sym (pos-before o k os st i j up f g c) in
-        let r8 = subst (λ (n : ℕ). Content tree c (L.land n (K v)) (F7 o k os st i j up f g c)) (sym n3) r7 in
-        subst (λ (B : Abs). Content tree c (L.land (L.guard op′ sub′ b′ z .0 .index) (K v)) B) (whole o k os st i j up f g c ∙ sym (flushed-is A)) r8;
+        let n3 : L.emitJump op′ sub′ b′ z .0 .index ≡ past (before o k os st i j up f g c) 0 = n2 ∙ B.behind-is o k os st i (up c) f ∙ sym (pos-before o k os st i j up f g c) in
+        let r8 = subst (λ (n : ℕ). Content tree c (L.placeTarget n (K v)) (F7 o k os st i j up f g c)) (sym n3) r7 in
+        subst (λ (B : Abs). Content tree c (L.placeTarget (L.emitJump op′ sub′ b′ z .0 .index) (K v)) B) (whole o k os st i j up f g c ∙ sym (flushed-is A)) r8;
   }
     where
       flushed-is : (A : Abs) → let k = flushedCode (A .wait) (A .code) in run (fork i j up f g) c A ≡ mk (A .outer) (k ++ (instr (i (suc (m (A .outer) k (A .open-calls) (A .state) i j up f g c))) ∷ (x (A .outer) k (A .open-calls) (A .state) i j up f g c .code ++ (instr (j (end (A .outer) k (A .open-calls) (A .state) i j up f g c)) ∷ y (A .outer) k (A .open-calls) (A .state) i j up f g c .code)))) false (A .open-calls) (y (A .outer) k (A .open-calls) (A .state) i j up f g c .state)

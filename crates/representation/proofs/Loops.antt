@@ -1,4 +1,4 @@
--- Loops: LoopBegin or EachBegin, the body with its Breaks and Continues aimed, the way back, LoopEnd. Assumes nothing.
+-- Loops: LoopBegin or EachBegin, the body with its Breaks and Continues breaksResolved, the way back, LoopEnd. Assumes nothing.
 use mathlib.Core.Path.{_≡_, refl, sym, ap, subst, _∙_}
 use mathlib.Core.Bool.{Bool, true, false}
 use mathlib.Core.List.{List, [], _∷_, _++_, map, append-assoc}
@@ -12,7 +12,7 @@ use Rattle.semantics.specs.Positions.{past}
 use Rattle.semantics.proofs.Positions.{past-append, past-length, past-map}
 use Rattle.semantics.specs.Run.{opens}
 use Rattle.semantics.specs.State.{Item, instr, State, raise}
-use Rattle.semantics.specs.Pieces.{Lowered, emit, Lowering, flush, put, aim, looped, eached}
+use Rattle.semantics.specs.Pieces.{Lowered, emit, Lowering, flush, put, aim, countedLoop, eached}
 use Rattle.lowering.specs.Pools.{after}
 use Rattle.builder.specs.Segments as T
 use Rattle.builder.specs.Steps.{Held}
@@ -134,11 +134,11 @@ module _ {tree : List ℕ} (c : Counts) where
       let r3 : Content tree (opens true c) h (mk o (hd ++ X .code) false os (X .state)) = subst (λ (l : List Item). Content tree (opens true c) h (mk o l false os (X .state))) e3 r in
       let q3′ : Fits (mk o (hd ++ X .code) false os (X .state)) = subst (λ (l : List Item). Fits (mk o l false os (X .state))) e3 q3 in
       let pl = L.place (h .0) in
-      let g : Held = (h .0, T.aimed (h .0) (after at) pl (pl + 1) (h .1)) in
+      let g : Held = (h .0, T.breaksResolved (h .0) (after at) pl (pl + 1) (h .1)) in
       let e4 : pl + 1 ≡ suc ck = omega (arith, p3) in
       let r4 : Content tree (opens true c) g (mk o (hd ++ bd) false os (X .state)) =
-      subst (λ (n : ℕ). Content tree (opens true c) (h .0, T.aimed (h .0) (after at) n (pl + 1) (h .1)) (mk o (hd ++ bd) false os (X .state))) (sym p3)
-      (subst (λ (n : ℕ). Content tree (opens true c) (h .0, T.aimed (h .0) (after at) ck n (h .1)) (mk o (hd ++ bd) false os (X .state))) (sym e4)
+      subst (λ (n : ℕ). Content tree (opens true c) (h .0, T.breaksResolved (h .0) (after at) n (pl + 1) (h .1)) (mk o (hd ++ bd) false os (X .state))) (sym p3)
+      (subst (λ (n : ℕ). Content tree (opens true c) (h .0, T.breaksResolved (h .0) (after at) ck n (h .1)) (mk o (hd ++ bd) false os (X .state))) (sym e4)
       (aim-at o hd (X .code) false os (X .state) h (after at) ck (suc ck) (let ha = head-at o k os st f c in omega (arith, ha, ea, pk, fc, l1)) q3′ r3)) in
       let q6 : Fits (mk o (E6 o k os st f c) false os (X .state)) = shorter o (E6 o k os st f c) (final o k os st f c) os (X .state) (omega arith) q in
       let q5 : Fits (mk o ((hd ++ bd) ++ (lc ∷ [])) false os (X .state)) = shorter o ((hd ++ bd) ++ (lc ∷ [])) (E6 o k os st f c) os (X .state) (omega (arith, length-append ((hd ++ bd) ++ (lc ∷ [])) (instr loopEnd ∷ []))) q6 in
@@ -147,11 +147,11 @@ module _ {tree : List ℕ} (c : Counts) where
       let w = L.instr 42 0 0 0 (L.instr 41 0 (at + 1) 0 g) in
       let j = joined o k os st f c in
       let r7 = land-at o k (tail o k os st f c) (instr (loopBegin 0)) (instr (loopBegin (suc (suc ck)))) false os (X .state) w (lead-front loop-leads (suc (suc ck)) ∙ sym (lead-front loop-leads 0)) (lead-back loop-leads (suc (suc ck)) ∙ sym (at-end o k os st f c)) (subst (λ (l : List Item). Fits (mk o l false os (X .state))) j q6) (subst (λ (l : List Item). Content tree (opens true c) w (mk o l false os (X .state))) j r6) in
-      subst (λ (n : ℕ). Content tree (opens true c) (L.land n w) (mk o (final o k os st f c) false os (X .state))) (sym ea) r7
+      subst (λ (n : ℕ). Content tree (opens true c) (L.placeTarget n w) (mk o (final o k os st f c) false os (X .state))) (sym ea) r7
 
 module _ {tree : List ℕ} {c : Counts} where
   pub loop-does : {f : Lowering} {F : Step} → Does tree f (opens true c) F
-      → Does tree (looped f) c (λ h. still (λ s. Y.loopLeft (Y.popped 1 s)) (L.loopClosed (L.guard 40 0 0 h .0 .index) (F (still (λ s. Y.loopEntered (Y.operandEntered s)) (guarding 40 0 0 h)))))
+      → Does tree (countedLoop f) c (λ h. still (λ s. Y.loopLeft (Y.popped 1 s)) (L.loopClosed (L.emitJump 40 0 0 h .0 .index) (F (still (λ s. Y.loopEntered (Y.operandEntered s)) (guarding 40 0 0 h)))))
   loop-does {f} {F} d = record {
     back = λ A q.
         let k = flushedCode (A .wait) (A .code) in
@@ -163,11 +163,11 @@ module _ {tree : List ℕ} {c : Counts} where
         let q0 = back-add (instr (loopBegin 0)) (flushA A) (B.guard-back loopBegin (opens true c) loop-move d A q3) in
         let z = F (still (λ s. Y.loopEntered (Y.operandEntered s)) (guarding 40 0 0 h)) in
         let r3 = B.guard-keep loopBegin (opens true c) loop-leads loop-move d A h q3 r in
-        let r7 = loop-keep c (A .outer) k (A .open-calls) (A .state) f (L.guard 40 0 0 h .0 .index) z (guard-place {A = A} {h = h} 40 0 0 q0 r) q7 r3 in
-        subst (λ (B : Abs). Content tree c (still (λ s. Y.loopLeft (Y.popped 1 s)) (L.loopClosed (L.guard 40 0 0 h .0 .index) z)) B) (sym (whole A)) (loop-left .keep _ (L.loopClosed (L.guard 40 0 0 h .0 .index) z) q7 r7);
+        let r7 = loop-keep c (A .outer) k (A .open-calls) (A .state) f (L.emitJump 40 0 0 h .0 .index) z (guard-place {A = A} {h = h} 40 0 0 q0 r) q7 r3 in
+        subst (λ (B : Abs). Content tree c (still (λ s. Y.loopLeft (Y.popped 1 s)) (L.loopClosed (L.emitJump 40 0 0 h .0 .index) z)) B) (sym (whole A)) (loop-left .keep _ (L.loopClosed (L.emitJump 40 0 0 h .0 .index) z) q7 r7);
   }
     where
-      whole : (A : Abs) → let k = flushedCode (A .wait) (A .code) in run (looped f) c A ≡ mk (A .outer) (k ++ (instr (loopBegin (suc (suc (check (A .outer) k (A .open-calls) (A .state) f c)))) ∷ tail (A .outer) k (A .open-calls) (A .state) f c)) false (A .open-calls) (x (A .outer) k (A .open-calls) (A .state) f c .state)
+      whole : (A : Abs) → let k = flushedCode (A .wait) (A .code) in run (countedLoop f) c A ≡ mk (A .outer) (k ++ (instr (loopBegin (suc (suc (check (A .outer) k (A .open-calls) (A .state) f c)))) ∷ tail (A .outer) k (A .open-calls) (A .state) f c)) false (A .open-calls) (x (A .outer) k (A .open-calls) (A .state) f c .state)
       whole A = flush-is (λ v n s.
           let a = f (opens true v) false (suc n) (raise (opens true v) s) in
           let b = past (a .code) (suc n) in

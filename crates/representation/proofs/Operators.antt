@@ -80,8 +80,8 @@ module _ (tree : List ℕ) (E : ℕ → Bool → Step) (C : ℕ → NameRef → 
   -- ---- and, or
 
   module _ (step : N.Guard) (last : N.Plain) (op end v : ℕ) (leads : Leads (N.guard step) op 0 v) (ends : wordOf (N.plain last) ≡ word end 0 0 v) where
-    pub junction-does : {c : Counts} (a : Lowerings) (ys : List Lowerings) (j q : ℕ) (l : Bool) → Child tree E C Z a q → Children tree E C Z ys j (nextAt tree q) → Does tree (D.junction step last a ys l) c (R.junction tree E C Z op end v j q l)
-    unfolding D.junction R.junction
+    pub junction-does : {c : Counts} (a : Lowerings) (ys : List Lowerings) (j q : ℕ) (l : Bool) → Child tree E C Z a q → Children tree E C Z ys j (nextAt tree q) → Does tree (D.logic step last a ys l) c (R.operands tree E C Z op end v j q l)
+    unfolding D.logic R.operands
     junction-does {c} a [] zero q l ca k = thens (ca .expr-is l c) (instr-does (N.plain last) ends)
     junction-does a [] (suc j) q l ca k = absurd k
     junction-does a (b ∷ ys) zero q l ca k = absurd k
@@ -90,8 +90,8 @@ module _ (tree : List ℕ) (E : ℕ → Bool → Step) (C : ℕ → NameRef → 
   -- ---- sums
 
   module _ (p : ℕ) where
-    addition-does : {c : Counts} (a : Lowerings) (ys : List Lowerings) (j q : ℕ) (l : Bool) → Child tree E C Z a q → Children tree E C Z ys j (nextAt tree q) → Does tree (D.addition (L.postBits tree p) a ys l) c (R.addition tree E C Z p j q l)
-    unfolding D.addition R.addition
+    addition-does : {c : Counts} (a : Lowerings) (ys : List Lowerings) (j q : ℕ) (l : Bool) → Child tree E C Z a q → Children tree E C Z ys j (nextAt tree q) → Does tree (D.terms (L.postBits tree p) a ys l) c (R.terms tree E C Z p j q l)
+    unfolding D.terms R.terms
     addition-does {c} a [] zero q l ca k = thens (ca .expr-is l c) (put-post p (λ v. N.taking (N.addLast v)) 18 0 0 (λ v. words 0 0 v .6))
     addition-does a [] (suc j) q l ca k = absurd k
     addition-does a (b ∷ ys) zero q l ca k = absurd k
@@ -99,14 +99,14 @@ module _ (tree : List ℕ) (E : ℕ → Bool → Step) (C : ℕ → NameRef → 
 
     -- ---- host functions: j operands are left open
 
-    hosted-ends : (f k : ℕ) {c : Counts} (a : Lowerings) (ys : List Lowerings) (j q : ℕ) (l : Bool) → Child tree E C Z a q → Children tree E C Z ys j (nextAt tree q) → Ends tree (D.hosted f k (L.postBits tree p) a ys l) c (ups j c) (R.hosted tree E C Z p f k j q l)
-    unfolding D.hosted R.hosted
+    hosted-ends : (f k : ℕ) {c : Counts} (a : Lowerings) (ys : List Lowerings) (j q : ℕ) (l : Bool) → Child tree E C Z a q → Children tree E C Z ys j (nextAt tree q) → Ends tree (D.hostMath f k (L.postBits tree p) a ys l) c (ups j c) (R.hostArguments tree E C Z p f k j q l)
+    unfolding D.hostMath R.hostArguments
     hosted-ends f k {c} a [] zero q l ca ks = stays (thens (ca .expr-is l c) (put-post p (λ v. N.taking (N.hostMath f k v)) 22 k f (λ v. words k f v .9)))
     hosted-ends f k a [] (suc j) q l ca ks = absurd ks
     hosted-ends f k a (b ∷ ys) zero q l ca ks = absurd ks
     hosted-ends f k {c} a (b ∷ ys) (suc j) q l ca ks = pushes (ca .expr-is l c) (hosted-ends f k b ys j (nextAt tree q) l (ks .0) (ks .1))
 
-    hosted-does : (f k : ℕ) {c : Counts} (a : Lowerings) (ys : List Lowerings) (j q : ℕ) (l : Bool) → Child tree E C Z a q → Children tree E C Z ys j (nextAt tree q) → Does tree (D.hosted f k (L.postBits tree p) a ys l) c (λ h. still (Y.popped j) (R.hosted tree E C Z p f k j q l h))
+    hosted-does : (f k : ℕ) {c : Counts} (a : Lowerings) (ys : List Lowerings) (j q : ℕ) (l : Bool) → Child tree E C Z a q → Children tree E C Z ys j (nextAt tree q) → Does tree (D.hostMath f k (L.postBits tree p) a ys l) c (λ h. still (Y.popped j) (R.hostArguments tree E C Z p f k j q l h))
     hosted-does f k {c} a ys j q l ca ks = let u = ups-are j c in lowers (hosted-ends f k a ys j q l ca ks) (popped-move c j (u .0) (u .1) (u .2))
 
   -- ---- the rules
@@ -133,15 +133,15 @@ module _ (tree : List ℕ) (E : ℕ → Bool → Step) (C : ℕ → NameRef → 
         (some-rel tree E C Z c (a .expr l ⨾ D.equalConst o (payloadAt tree p) q) (thens (ca .expr-is l c) (equal-const o q))
         (λ b zs. pushed (a .expr l) (b .expr l ⨾ put (N.taking (N.eq o q)))) ys j (nextAt tree (firstAt tree p)) ks (λ b zs i d cb ls. binary-does (firstAt tree p) l ca cb (instr-does (N.taking (N.eq o q)) (words o 0 q .4))))))
 
-    pub and-does : Does tree (P.some xs (failing 7) λ a ys. withPost (L.postBits tree p) λ q. D.junction (N.andStep q) (N.andLast q) a ys l) c (R.logical tree E C Z 28 30 p l)
-    unfolding R.logical
-    and-does = some-rel tree E C Z c (failing 7) (failing-does 7) (λ a ys. withPost (L.postBits tree p) λ q. D.junction (N.andStep q) (N.andLast q) a ys l) xs (countAt tree p) (firstAt tree p) k (λ a ys j e ca ks. post-does (L.postBits tree p) (λ q.
-        subst (λ (m : ℕ). Does tree (D.junction (N.andStep q) (N.andLast q) a ys l) c (R.junction tree E C Z 28 30 q m (firstAt tree p) l)) (less (countAt tree p) j e) (junction-does (N.andStep q) (N.andLast q) 28 30 q (and-leads q) (words 0 0 q .13) a ys j (firstAt tree p) l ca ks)))
+    pub and-does : Does tree (P.some xs (failing 7) λ a ys. withPost (L.postBits tree p) λ q. D.logic (N.andStep q) (N.andLast q) a ys l) c (R.logic tree E C Z 28 30 p l)
+    unfolding R.logic
+    and-does = some-rel tree E C Z c (failing 7) (failing-does 7) (λ a ys. withPost (L.postBits tree p) λ q. D.logic (N.andStep q) (N.andLast q) a ys l) xs (countAt tree p) (firstAt tree p) k (λ a ys j e ca ks. post-does (L.postBits tree p) (λ q.
+        subst (λ (m : ℕ). Does tree (D.logic (N.andStep q) (N.andLast q) a ys l) c (R.operands tree E C Z 28 30 q m (firstAt tree p) l)) (less (countAt tree p) j e) (junction-does (N.andStep q) (N.andLast q) 28 30 q (and-leads q) (words 0 0 q .13) a ys j (firstAt tree p) l ca ks)))
 
-    pub or-does : Does tree (P.some xs (failing 7) λ a ys. withPost (L.postBits tree p) λ q. D.junction (N.orStep q) (N.orLast q) a ys l) c (R.logical tree E C Z 29 31 p l)
-    unfolding R.logical
-    or-does = some-rel tree E C Z c (failing 7) (failing-does 7) (λ a ys. withPost (L.postBits tree p) λ q. D.junction (N.orStep q) (N.orLast q) a ys l) xs (countAt tree p) (firstAt tree p) k (λ a ys j e ca ks. post-does (L.postBits tree p) (λ q.
-        subst (λ (m : ℕ). Does tree (D.junction (N.orStep q) (N.orLast q) a ys l) c (R.junction tree E C Z 29 31 q m (firstAt tree p) l)) (less (countAt tree p) j e) (junction-does (N.orStep q) (N.orLast q) 29 31 q (or-leads q) (words 0 0 q .14) a ys j (firstAt tree p) l ca ks)))
+    pub or-does : Does tree (P.some xs (failing 7) λ a ys. withPost (L.postBits tree p) λ q. D.logic (N.orStep q) (N.orLast q) a ys l) c (R.logic tree E C Z 29 31 p l)
+    unfolding R.logic
+    or-does = some-rel tree E C Z c (failing 7) (failing-does 7) (λ a ys. withPost (L.postBits tree p) λ q. D.logic (N.orStep q) (N.orLast q) a ys l) xs (countAt tree p) (firstAt tree p) k (λ a ys j e ca ks. post-does (L.postBits tree p) (λ q.
+        subst (λ (m : ℕ). Does tree (D.logic (N.orStep q) (N.orLast q) a ys l) c (R.operands tree E C Z 29 31 q m (firstAt tree p) l)) (less (countAt tree p) j e) (junction-does (N.orStep q) (N.orLast q) 29 31 q (or-leads q) (words 0 0 q .14) a ys j (firstAt tree p) l ca ks)))
 
     pub bracket-does : Does tree (P.one xs (failing 7) λ a. a .expr l) c (R.bracket tree E C Z p l)
     unfolding R.bracket
@@ -166,17 +166,17 @@ module _ (tree : List ℕ) (E : ℕ → Bool → Step) (C : ℕ → NameRef → 
     div-does = two-rel tree E C Z c (failing 7) (failing-does 7) (λ a b. b .expr l ⨾ guarded (N.divGuard (eqb (be8 tree 0 6) 1)) operand+ (a .expr l ⨾ withPost (L.postBits tree p) (λ q. put (N.taking (N.div q))))) xs (countAt tree p) (firstAt tree p) k
         (λ a b ca cb. thens (cb .expr-is l c) (guarded-does (N.divGuard (eqb (be8 tree 0 6) 1)) operand+ (div-leads (eqb (be8 tree 0 6) 1)) operand-move (thens (ca .expr-is l (operand+ c)) (put-post p (λ q. N.taking (N.div q)) 21 0 0 (λ q. words 0 0 q .8))) (pop-one c)))
 
-    pub add-does : Does tree (P.some xs (failing 7) λ a ys. P.some ys (a .expr l ⨾ postInstruction (L.postBits tree p)) λ b zs. pushed (a .expr l) (D.addition (L.postBits tree p) b zs l)) c (R.add tree E C Z p l)
+    pub add-does : Does tree (P.some xs (failing 7) λ a ys. P.some ys (a .expr l ⨾ postInstruction (L.postBits tree p)) λ b zs. pushed (a .expr l) (D.terms (L.postBits tree p) b zs l)) c (R.add tree E C Z p l)
     unfolding R.add
-    add-does = some-rel tree E C Z c (failing 7) (failing-does 7) (λ a ys. P.some ys (a .expr l ⨾ postInstruction (L.postBits tree p)) λ b zs. pushed (a .expr l) (D.addition (L.postBits tree p) b zs l)) xs (countAt tree p) (firstAt tree p) k (λ a ys j e ca ks.
-        subst (λ (t : Bool). Does tree (P.some ys (a .expr l ⨾ postInstruction (L.postBits tree p)) λ b zs. pushed (a .expr l) (D.addition (L.postBits tree p) b zs l)) c (λ h. cond t (L.postInstr tree p (E (firstAt tree p) l h)) (still (Y.popped 1) (R.addition tree E C Z p (countAt tree p - 2) (nextAt tree (firstAt tree p)) l (still W.pushed (E (firstAt tree p) l h)))))) (one-left (countAt tree p) j e)
-        (some-rel tree E C Z c (a .expr l ⨾ postInstruction (L.postBits tree p)) (thens (ca .expr-is l c) (post-behind p)) (λ b zs. pushed (a .expr l) (D.addition (L.postBits tree p) b zs l)) ys j (nextAt tree (firstAt tree p)) ks (λ b zs i d cb ls.
+    add-does = some-rel tree E C Z c (failing 7) (failing-does 7) (λ a ys. P.some ys (a .expr l ⨾ postInstruction (L.postBits tree p)) λ b zs. pushed (a .expr l) (D.terms (L.postBits tree p) b zs l)) xs (countAt tree p) (firstAt tree p) k (λ a ys j e ca ks.
+        subst (λ (t : Bool). Does tree (P.some ys (a .expr l ⨾ postInstruction (L.postBits tree p)) λ b zs. pushed (a .expr l) (D.terms (L.postBits tree p) b zs l)) c (λ h. cond t (L.postInstr tree p (E (firstAt tree p) l h)) (still (Y.popped 1) (R.terms tree E C Z p (countAt tree p - 2) (nextAt tree (firstAt tree p)) l (still W.pushed (E (firstAt tree p) l h)))))) (one-left (countAt tree p) j e)
+        (some-rel tree E C Z c (a .expr l ⨾ postInstruction (L.postBits tree p)) (thens (ca .expr-is l c) (post-behind p)) (λ b zs. pushed (a .expr l) (D.terms (L.postBits tree p) b zs l)) ys j (nextAt tree (firstAt tree p)) ks (λ b zs i d cb ls.
         let m : i ≡ countAt tree p - 2 = omega arith in
-        subst (λ (n : ℕ). Does tree (pushed (a .expr l) (D.addition (L.postBits tree p) b zs l)) c (λ h. still (Y.popped 1) (R.addition tree E C Z p n (nextAt tree (firstAt tree p)) l (still W.pushed (E (firstAt tree p) l h))))) m
+        subst (λ (n : ℕ). Does tree (pushed (a .expr l) (D.terms (L.postBits tree p) b zs l)) c (λ h. still (Y.popped 1) (R.terms tree E C Z p n (nextAt tree (firstAt tree p)) l (still W.pushed (E (firstAt tree p) l h))))) m
         (lowers (pushes (ca .expr-is l c) (stays (addition-does p b zs i (nextAt tree (firstAt tree p)) l cb ls))) (pop-one c)))))
 
-    pub pointer-does : Does tree (D.pointed (L.postBits tree p) xs l) c (R.pointer tree E C Z p l)
-    unfolding D.pointed R.pointer
+    pub pointer-does : Does tree (D.pointer (L.postBits tree p) xs l) c (R.pointer tree E C Z p l)
+    unfolding D.pointer R.pointer
     pointer-does = flagged-does (λ f. S.sets USES-ARROW (S.notFloatOnly f)) (λ s. Y.flagged 128 (Y.notFloatOnly s)) (sets-not-move 128)
         (two-rel tree E C Z c (failing 7) (failing-does 7) (λ a b. withPost (L.postBits tree p) λ q. a .expr l ⨾ guarded (N.pointerEnter q) same (b .expr l ⨾ put (N.plain (N.pointerLeave q)))) xs (countAt tree p) (firstAt tree p) k
         (λ a b ca cb. post-does (L.postBits tree p) (λ q. thens (ca .expr-is l c) (guarded-does (N.pointerEnter q) same (arrow-leads q) same-move (thens (cb .expr-is l c) (instr-does (N.plain (N.pointerLeave q)) (words 0 0 q .10))) nothing-move))))
@@ -189,10 +189,10 @@ module _ (tree : List ℕ) (E : ℕ → Bool → Step) (C : ℕ → NameRef → 
         go (yes r) = subst (λ (t : Bool). Does tree (cond t g (failing 7)) c (λ h. cond (ltb 255 m) (W.failed 7 h) (G h))) (sym (lt-leb m 255 r)) (subst (λ (t : Bool). Does tree (failing 7) c (λ h. cond t (W.failed 7 h) (G h))) (sym (lt-ltb 255 m r)) (failing-does 7))
         go (no r) = subst (λ (t : Bool). Does tree (cond t g (failing 7)) c (λ h. cond (ltb 255 m) (W.failed 7 h) (G h))) (sym (le-leb m 255 (omega arith))) (subst (λ (t : Bool). Does tree g c (λ h. cond t (W.failed 7 h) (G h))) (sym (le-ltb 255 m (omega arith))) d)
 
-    pub math-does : (bits : ℕ) → Does tree (flagged (S.sets bits) (P.asMath (payloadAt tree p) (failing 7) λ f. P.some xs (failing 7) λ a ys. cond (leb (length xs) 255) (D.hosted f (length xs) (L.postBits tree p) a ys l) (failing 7))) c (R.hostMath tree E C Z bits p l)
+    pub math-does : (bits : ℕ) → Does tree (flagged (S.sets bits) (P.asMath (payloadAt tree p) (failing 7) λ f. P.some xs (failing 7) λ a ys. cond (leb (length xs) 255) (D.hostMath f (length xs) (L.postBits tree p) a ys l) (failing 7))) c (R.hostMath tree E C Z bits p l)
     unfolding R.hostMath
     math-does bits = flagged-does (S.sets bits) (Y.flagged bits) (sets-move bits) (as-math p (failing-does 7) (λ f.
         let e = children-count tree E C Z xs (countAt tree p) (firstAt tree p) k in
-        subst (λ (n : ℕ). Does tree (P.some xs (failing 7) λ a ys. cond (leb n 255) (D.hosted f n (L.postBits tree p) a ys l) (failing 7)) c (λ h. cond (eqb (countAt tree p) 0) (W.failed 7 h) (cond (ltb 255 (countAt tree p)) (W.failed 7 h) (still (Y.popped (countAt tree p - 1)) (R.hosted tree E C Z p f (countAt tree p) (countAt tree p - 1) (firstAt tree p) l h))))) (sym e)
-        (some-rel tree E C Z c (failing 7) (failing-does 7) (λ a ys. cond (leb (countAt tree p) 255) (D.hosted f (countAt tree p) (L.postBits tree p) a ys l) (failing 7)) xs (countAt tree p) (firstAt tree p) k (λ a ys j d ca ks.
-        few (countAt tree p) (subst (λ (m : ℕ). Does tree (D.hosted f (countAt tree p) (L.postBits tree p) a ys l) c (λ h. still (Y.popped m) (R.hosted tree E C Z p f (countAt tree p) m (firstAt tree p) l h))) (less (countAt tree p) j d) (hosted-does p f (countAt tree p) a ys j (firstAt tree p) l ca ks))))))
+        subst (λ (n : ℕ). Does tree (P.some xs (failing 7) λ a ys. cond (leb n 255) (D.hostMath f n (L.postBits tree p) a ys l) (failing 7)) c (λ h. cond (eqb (countAt tree p) 0) (W.failed 7 h) (cond (ltb 255 (countAt tree p)) (W.failed 7 h) (still (Y.popped (countAt tree p - 1)) (R.hostArguments tree E C Z p f (countAt tree p) (countAt tree p - 1) (firstAt tree p) l h))))) (sym e)
+        (some-rel tree E C Z c (failing 7) (failing-does 7) (λ a ys. cond (leb (countAt tree p) 255) (D.hostMath f (countAt tree p) (L.postBits tree p) a ys l) (failing 7)) xs (countAt tree p) (firstAt tree p) k (λ a ys j d ca ks.
+        few (countAt tree p) (subst (λ (m : ℕ). Does tree (D.hostMath f (countAt tree p) (L.postBits tree p) a ys l) c (λ h. still (Y.popped m) (R.hostArguments tree E C Z p f (countAt tree p) m (firstAt tree p) l h))) (less (countAt tree p) j d) (hosted-does p f (countAt tree p) a ys j (firstAt tree p) l ca ks))))))

@@ -1,4 +1,4 @@
--- Instructions whose target comes later: set when it is known, Breaks and Continues aimed by their loop. Assumes nothing.
+-- Instructions whose target comes later: set when it is known, Breaks and Continues breaksResolved by their loop. Assumes nothing.
 use mathlib.Core.Path.{_≡_, refl, sym, ap, subst, _∙_}
 use mathlib.Core.Bool.{Bool, true, false, cond}
 use mathlib.Core.List.{List, [], _∷_, _++_, map, append-assoc, append-nil}
@@ -96,8 +96,8 @@ placed {A = A} k = let t = k .tables in omega (arith, t .open-base, t .open-code
 
 -- ---- a target set
 
-land-is : (at : ℕ) (h : Held) → h .0 .base + at + 1 ≤ 2048 → L.land at h ≡ (h .0, set (h .1) ((h .0 .base + at) * 2 + 1) (L.place (h .0)))
-unfolding L.land T.targeted G.targeted
+land-is : (at : ℕ) (h : Held) → h .0 .base + at + 1 ≤ 2048 → L.placeTarget at h ≡ (h .0, set (h .1) ((h .0 .base + at) * 2 + 1) (L.place (h .0)))
+unfolding L.placeTarget T.targeted G.targeted
 land-is at h l =
     let e : min (h .0 .base + at) 65535 ≡ h .0 .base + at = omega arith in
     rw (e, le-leb (h .0 .base + at + 1) 2048 l)
@@ -107,7 +107,7 @@ set-apart ws i v = record { same-length = length-set ws i v; below = λ j l. get
 
 module _ {tree : List ℕ} {c : Counts} where
   pub land-at : (o k l : List Item) (y x : Item) (w : Bool) (os : List OpenCall) (s : State) (h : Held) → frontOf x ≡ frontOf y → backOf x ≡ past (k ++ (y ∷ l)) 0
-      → Fits (mk o (k ++ (y ∷ l)) w os s) → Content tree c h (mk o (k ++ (y ∷ l)) w os s) → Content tree c (L.land (past k 0) h) (mk o (k ++ (x ∷ l)) w os s)
+      → Fits (mk o (k ++ (y ∷ l)) w os s) → Content tree c h (mk o (k ++ (y ∷ l)) w os s) → Content tree c (L.placeTarget (past k 0) h) (mk o (k ++ (x ∷ l)) w os s)
   land-at o k l y x w os s h ef eb f r =
       let t = r .tables in
       let A = mk o (k ++ (y ∷ l)) w os s in
@@ -144,7 +144,7 @@ module _ {tree : List ℕ} {c : Counts} where
         tables = open-changed A f a (omega arith) ob (record { count = omega arith; rows = rows }) t;
       })
 
--- ---- Breaks and Continues aimed
+-- ---- Breaks and Continues breaksResolved
 
 stored : (ws : List ℕ) (at p t u : ℕ) → p ≡ at * 2 → p + 2 ≤ length ws → ((getD (sets ws (at * 2) (t ∷ u ∷ [])) p 0 ≡ t) × (getD (sets ws (at * 2) (t ∷ u ∷ [])) (p + 1) 0 % 4294967296 ≡ u % 4294967296)) × Apart ws (sets ws (at * 2) (t ∷ u ∷ [])) p (p + 2)
 stored ws at p t u e l =
@@ -159,8 +159,8 @@ stored ws at p t u e l =
     )
 
 module _ (check cleanup : ℕ) where
-  aim-one : (ws : List ℕ) (at p : ℕ) (x : Item) → p ≡ at * 2 → p + 2 ≤ length ws → ItemAt ws p x → ItemAt (G.aimedOne ws at check cleanup) p (aim check cleanup x) × Apart ws (G.aimedOne ws at check cleanup) p (p + 2)
-  unfolding G.aimedOne wordOf
+  aim-one : (ws : List ℕ) (at p : ℕ) (x : Item) → p ≡ at * 2 → p + 2 ≤ length ws → ItemAt ws p x → ItemAt (G.breakResolved ws at check cleanup) p (aim check cleanup x) × Apart ws (G.breakResolved ws at check cleanup) p (p + 2)
+  unfolding G.breakResolved wordOf
   aim-one ws at p (instr i) e l h =
       let s = front-small i in
       let g : getD ws (at * 2) 0 ≡ frontOf (instr i) = ap (λ (j : ℕ). getD ws j 0) (sym e) ∙ h .0 in
@@ -176,19 +176,19 @@ module _ (check cleanup : ℕ) where
       (stored ws at p G.JUMP check e l)
 
   aim-range : (l : List Item) (ws : List ℕ) (at : ℕ) → at * 2 + 2 * length l ≤ length ws → Rows 2 (ItemAt ws) (at * 2) l
-      → Rows 2 (ItemAt (G.aimedRange ws at (length l) check cleanup)) (at * 2) (map (aim check cleanup) l) × Apart ws (G.aimedRange ws at (length l) check cleanup) (at * 2) (at * 2 + 2 * length l)
-  unfolding G.aimedRange
+      → Rows 2 (ItemAt (G.rangeResolved ws at (length l) check cleanup)) (at * 2) (map (aim check cleanup) l) × Apart ws (G.rangeResolved ws at (length l) check cleanup) (at * 2) (at * 2 + 2 * length l)
+  unfolding G.rangeResolved
   aim-range [] ws at b h = (tt, record { same-length = refl; below = λ j u. refl; above = λ j u. refl })
   aim-range (x ∷ l) ws at b h =
       let one = aim-one ws at (at * 2) x refl (omega arith) (h .0) in
-      let vs = G.aimedOne ws at check cleanup in
+      let vs = G.breakResolved ws at check cleanup in
       let a = one .1 in
       let al = a .same-length in
       let e : at * 2 + 2 ≡ suc at * 2 = omega arith in
       let w = weigh-length 2 l in
       let tail : Rows 2 (ItemAt vs) (suc at * 2) l = subst (λ (p : ℕ). Rows 2 (ItemAt vs) p l) e (rows-agree 2 ItemAt item-local ws vs (at * 2 + 2) l (λ j u z. a .above j u) (h .1)) in
       let rec = aim-range l vs (suc at) (omega arith) tail in
-      let us = G.aimedRange vs (suc at) (length l) check cleanup in
+      let us = G.rangeResolved vs (suc at) (length l) check cleanup in
       let b = rec .1 in
       let first : ItemAt us (at * 2) (aim check cleanup x) = item-local vs us (at * 2) (aim check cleanup x) (λ j u z. b .below j (omega arith)) (one .0) in (
         (first, subst (λ (p : ℕ). Rows 2 (ItemAt us) p (map (aim check cleanup) l)) (sym e) (rec .0)),
@@ -199,8 +199,8 @@ pub length-aimed : (check cleanup : ℕ) (l : List Item) → length (map (aim ch
 length-aimed check cleanup [] = refl
 length-aimed check cleanup (x ∷ l) = ap suc (length-aimed check cleanup l)
 
-aimed-is : (at check cleanup n : ℕ) (h : Held) → h .0 .base + at ≤ 65535 → h .0 .top - (h .0 .base + at) ≡ n → T.aimed (h .0) at check cleanup (h .1) ≡ G.aimedRange (h .1) (h .0 .base + at) n check cleanup
-unfolding T.aimed
+aimed-is : (at check cleanup n : ℕ) (h : Held) → h .0 .base + at ≤ 65535 → h .0 .top - (h .0 .base + at) ≡ n → T.breaksResolved (h .0) at check cleanup (h .1) ≡ G.rangeResolved (h .1) (h .0 .base + at) n check cleanup
+unfolding T.breaksResolved
 aimed-is at check cleanup n h l e =
     let m : min (h .0 .base + at) 65535 ≡ h .0 .base + at = omega arith in
     rw (m, e)
@@ -208,7 +208,7 @@ aimed-is at check cleanup n h l e =
 module _ {tree : List ℕ} {c : Counts} where
   -- those of the code behind k
   pub aim-at : (o k l : List Item) (w : Bool) (os : List OpenCall) (s : State) (h : Held) (at check cleanup : ℕ) → at ≡ past k 0
-      → Fits (mk o (k ++ l) w os s) → Content tree c h (mk o (k ++ l) w os s) → Content tree c (h .0, T.aimed (h .0) at check cleanup (h .1)) (mk o (k ++ map (aim check cleanup) l) w os s)
+      → Fits (mk o (k ++ l) w os s) → Content tree c h (mk o (k ++ l) w os s) → Content tree c (h .0, T.breaksResolved (h .0) at check cleanup (h .1)) (mk o (k ++ map (aim check cleanup) l) w os s)
   aim-at o k l w os s h at check cleanup ea f r =
       let t = r .tables in
       let A = mk o (k ++ l) w os s in
@@ -231,7 +231,7 @@ module _ {tree : List ℕ} {c : Counts} where
       let left = rows-left 2 (ItemAt (h .1)) OPEN (o ++ k) l rows0 in
       let right : Rows 2 (ItemAt (h .1)) (i * 2) l = subst (λ (p : ℕ). Rows 2 (ItemAt (h .1)) p l) ei (rows-right 2 (ItemAt (h .1)) OPEN (o ++ k) l rows0) in
       let g = aim-range check cleanup l (h .1) i (omega arith) right in
-      let vs = G.aimedRange (h .1) i (length l) check cleanup in
+      let vs = G.rangeResolved (h .1) i (length l) check cleanup in
       let a = g .1 in
       let left′ : Rows 2 (ItemAt vs) OPEN (o ++ k) = rows-agree 2 ItemAt item-local (h .1) vs OPEN (o ++ k) (λ j u z. a .below j (omega arith)) left in
       let rows = subst (λ (q : List Item). Rows 2 (ItemAt vs) OPEN q) (append-assoc o k m) (rows-append 2 (ItemAt vs) OPEN (o ++ k) m left′ (subst (λ (p : ℕ). Rows 2 (ItemAt vs) p m) (sym ei) (g .0))) in
@@ -256,10 +256,10 @@ lead-back e t = ap (λ (w : Word). w .a) (e .fields t)
 
 -- the state and words behind it
 abbrev pub guarding : ℕ → ℕ → ℕ → Step
-guarding op sub b h = (L.guard op sub b h .0 .state, L.guard op sub b h .1)
+guarding op sub b h = (L.emitJump op sub b h .0 .state, L.emitJump op sub b h .1)
 
 guarding-is : (op sub b : ℕ) (h : Held) → guarding op sub b h ≡ W.emitted (front op sub b) 0 (W.flushed h)
-unfolding L.guard
+unfolding L.emitJump
 guarding-is op sub b h = refl
 
 module _ {tree : List ℕ} {c : Counts} where
@@ -273,6 +273,6 @@ module _ {tree : List ℕ} {c : Counts} where
         (subst (λ (x : ℕ). Content tree c (W.emitted (frontOf (instr (i 0))) x (W.flushed h)) (addItem (instr (i 0)) (flushA A))) (lead-back e 0) m));
   }
 
-  pub guard-place : {A : Abs} {h : Held} (op sub b : ℕ) → Fits (flushA A) → Content tree c h A → L.guard op sub b h .0 .index ≡ past (flushedCode (A .wait) (A .code)) 0
-  unfolding L.guard
+  pub guard-place : {A : Abs} {h : Held} (op sub b : ℕ) → Fits (flushA A) → Content tree c h A → L.emitJump op sub b h .0 .index ≡ past (flushedCode (A .wait) (A .code)) 0
+  unfolding L.emitJump
   guard-place {A} {h} op sub b f k = placed (flushes {tree = tree} {c = c} .keep A h f k)

@@ -87,8 +87,8 @@ module _ {tree : List ℕ} {c : Counts} (p : ℕ) (sound : NodeSound tree p) (sh
   member-does′ l = flagged-does (λ f. S.sets USES-MEMBERS (S.notFloatOnly f)) (λ s. Y.flagged 16 (Y.notFloatOnly s)) (sets-not-move 16)
       (as-name 6 p sound short (λ n. D.chained (L.postBits tree p) (payloadAt tree p) xs n l) (failing-does 7) (λ r t. chained-does r t l))
 
-  pub array-does : (l : Bool) → Does tree (cond (eqb (be8 tree 0 5) 1) (D.arrayElement-of (L.postBits tree p) (payloadAt tree p) xs l) (failing 5)) c (R.arrayElement tree E C Z p l)
-  unfolding D.arrayElement-of R.arrayElement R.arrayPut
+  pub array-does : (l : Bool) → Does tree (cond (eqb (be8 tree 0 5) 1) (D.arrayElement (L.postBits tree p) (payloadAt tree p) xs l) (failing 5)) c (R.arrayElement tree E C Z p l)
+  unfolding D.arrayElement R.arrayElement R.arrayPut
   array-does l = go (eqb (be8 tree 0 5) 1)
     where
       inner : Does tree (P.just xs (failing 7) λ a. P.asName 7 (payloadAt tree p) (failing 7) λ n. flagged S.notFloatOnly (a .expr l ⨾ withName n (λ k. withPost (L.postBits tree p) λ q. put (N.reading (N.arrayElement k q))))) c

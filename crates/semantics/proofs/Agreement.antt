@@ -6,14 +6,15 @@ use lib.ListN.{length}
 use lib.Dec.{leb}
 use Rattle.ast.specs.Tree.{Name, Payload, Tree, node, Forest, nil, cons}
 use Rattle.numeric.specs.Post.{Post, isIdentity, fold}
-use Rattle.program.specs.Instruction.{Plain, hash, resource, this, negate, not, andLast, orLast, pointerLeave, storeVar, storeTemp, storeMember, cmpConst, eqConst, eqHash, addAcc, addLast, mul, div, cmp, eq, hostMath, loadVar, loadTemp, loadCtx, arrayElement, member, Guard, divGuard, andStep, orStep, pointerEnter, EachNext, eachNextVar, eachNextTemp, plain}
+use Rattle.program.specs.Instruction as Instr
+use Rattle.program.specs.Instruction.{Plain, hash, resource, this, negate, not, andLast, orLast, pointerLeave, storeVar, storeTemp, storeMember, cmpConst, eqConst, eqHash, addAcc, addLast, mul, div, cmp, eq, hostMath, loadVar, loadTemp, loadCtx, member, Guard, divGuard, andStep, orStep, pointerEnter, EachNext, eachNextVar, eachNextTemp, plain}
 use Rattle.program.specs.Program.{nameAt, StoreRoot, rootVar, rootTemp, rootOther, Program, postAt, slotAt, memberAt}
 use Rattle.semantics.proofs.BoundedControl.{Whole}
 use Rattle.semantics.proofs.BoundedRules.{tree-bound}
 use Rattle.semantics.proofs.Relations.{Zip, znil, zcons, zip-length, name-rel, name-left, hash-rel, math-rel, query-rel, one-rel, two-rel, some-rel, just-rel, three-rel}
 use Rattle.semantics.proofs.SimulatedCalls.{Tree-s}
 use Rattle.semantics.proofs.Simulation.{Sim}
-use Rattle.semantics.specs.Lowering.{Lowerings, memberRead, withRoot, memberStore, isMember, targetRefusal, unless, equalConst, arrayElement-of, lowerPlain, lowerRule, lower, lowers}
+use Rattle.semantics.specs.Lowering.{Lowerings, memberRead, withRoot, memberStore, isMember, targetRefusal, unless, equalConst, arrayElement, lowerPlain, lowerRule, lower, lowers}
 use Rattle.semantics.specs.Machine.{rootAt, plainAction, takingAction, taken, readingAction, guardAction, guardUp, eachAction}
 use Rattle.semantics.specs.Payloads.{asHash, floatOf, constOf, some, Path, path}
 use Rattle.semantics.specs.Pieces.{Lowering, put, failing, _⨾_, withName, withTemp, withPost, postInstruction}
@@ -64,21 +65,21 @@ module _ (S : Settings) (P : Program) (E : ℕ) (r : Result) where
   statements-s o (zcons a h) e = a .statement e ⨟ statements-s o h e
 
   junction-s : (j : Bool) (q : ℕ) {l : Lowerings} {m : Walkings} → T′ l m → {ls : List Lowerings} {ms : List Walkings} → Zip T′ ls ms → (e : Scope)
-      → S′ e (L.junction (cond j (andStep q) (orStep q)) (cond j (andLast q) (orLast q)) l ls (e .loop)) (K.junction (cond j (eAndStep (postAt P q)) (eOrStep (postAt P q))) (cond j (eAndLast (postAt P q)) (eOrLast (postAt P q))) m ms e)
-  unfolding L.junction K.junction plainAction guardAction guardUp
+      → S′ e (L.logic (cond j (andStep q) (orStep q)) (cond j (andLast q) (orLast q)) l ls (e .loop)) (K.logic (cond j (eAndStep (postAt P q)) (eOrStep (postAt P q))) (cond j (eAndLast (postAt P q)) (eOrLast (postAt P q))) m ms e)
+  unfolding L.logic K.logic plainAction guardAction guardUp
   junction-s true q a znil e = a .expr e ⨟ pl (Plain.andLast q)
   junction-s true q a (zcons b h) e = a .expr e ⨟ Y.guarded-s P E r (Guard.andStep q) (junction-s true q b h e)
   junction-s false q a znil e = a .expr e ⨟ pl (Plain.orLast q)
   junction-s false q a (zcons b h) e = a .expr e ⨟ Y.guarded-s P E r (Guard.orStep q) (junction-s false q b h e)
 
-  addition-s : (p : Post) {l : Lowerings} {m : Walkings} → T′ l m → {ls : List Lowerings} {ms : List Walkings} → Zip T′ ls ms → (e : Scope) → S′ e (L.addition p l ls (e .loop)) (K.addition (shown p) m ms e)
-  unfolding L.addition K.addition plainAction takingAction taken
+  addition-s : (p : Post) {l : Lowerings} {m : Walkings} → T′ l m → {ls : List Lowerings} {ms : List Walkings} → Zip T′ ls ms → (e : Scope) → S′ e (L.terms p l ls (e .loop)) (K.terms (shown p) m ms e)
+  unfolding L.terms K.terms plainAction takingAction taken
   addition-s p a znil e = a .expr e ⨟ with-p p _ (λ q. takes 1 (eAddLast q)) (λ k. Z.taking-s P E r (addLast k))
   addition-s p a (zcons b h) e = a .expr e ⨟ pl addAcc ⨟ addition-s p b h e
 
   hosted-s : (f n : ℕ) (p : Post) {l : Lowerings} {m : Walkings} → T′ l m → {ls : List Lowerings} {ms : List Walkings} → Zip T′ ls ms → (e : Scope)
-      → S′ e (L.hosted f n p l ls (e .loop)) (K.hosted (pred n) (eHostMath f n (shown p)) m ms e)
-  unfolding L.hosted K.hosted takingAction taken
+      → S′ e (L.hostMath f n p l ls (e .loop)) (K.hostMath (pred n) (eHostMath f n (shown p)) m ms e)
+  unfolding L.hostMath K.hostMath takingAction taken
   hosted-s f n p a znil e = a .expr e ⨟ with-p p _ (λ q. takes (pred n) (eHostMath f n q)) (λ k. Z.taking-s P E r (hostMath f n k))
   hosted-s f n p a (zcons b h) e = Z.pushed-s P E r (a .expr e) (hosted-s f n p b h e)
 
@@ -129,14 +130,14 @@ module _ (S : Settings) (P : Program) (E : ℕ) (r : Result) where
   unary-s false p = with-p p _ (λ q. logs (Action.eNot q)) (λ k. pl (Plain.not k))
 
   host-s : (f : ℕ) (p : Post) {ls : List Lowerings} {ms : List Walkings} → Zip T′ ls ms → (e : Scope)
-      → S′ e (some ls (failing 7) (λ a ys. cond (leb (length ls) 255) (L.hosted f (length ls) p a ys (e .loop)) (failing 7)))
-      (some ms pass (λ a ys. cond (leb (length ms) 255) (K.hosted (length ys) (eHostMath f (length ms) (shown p)) a ys e) pass))
+      → S′ e (some ls (failing 7) (λ a ys. cond (leb (length ls) 255) (L.hostMath f (length ls) p a ys (e .loop)) (failing 7)))
+      (some ms pass (λ a ys. cond (leb (length ms) 255) (K.hostMath (length ys) (eHostMath f (length ms) (shown p)) a ys e) pass))
   host-s f p znil e = no-s
   host-s f p (zcons {qs = ms} a z) e = rw (zip-length z) (fits-s (leb (suc (length ms)) 255) (hosted-s f (suc (length ms)) p a z e))
 
-  array-s : (x : Bool) (p : Post) (v : Payload) (ts : Forest) {ls : List Lowerings} {ms : List Walkings} → Zip T′ ls ms → (e : Scope) → S′ e (cond x (arrayElement-of p v ls (e .loop)) (failing 5)) (walkPlain S R.array p v ts ms e)
-  unfolding arrayElement-of walkPlain readingAction
-  array-s true p v ts h e = just-rel (S′ e) h no-s λ l m a. name-rel (S′ e) 7 v no-s (λ n. Z.flagged-s P E r _ (a .expr e ⨟ with-n n _ (λ t. loads e (eArrayElement t (shown p))) (λ k. with-p p _ (λ q. loads e (eArrayElement (nameAt P k) q)) (λ q. Y.may-s P E r (arrayElement k q)))))
+  array-s : (x : Bool) (p : Post) (v : Payload) (ts : Forest) {ls : List Lowerings} {ms : List Walkings} → Zip T′ ls ms → (e : Scope) → S′ e (cond x (arrayElement p v ls (e .loop)) (failing 5)) (walkPlain S R.array p v ts ms e)
+  unfolding arrayElement walkPlain readingAction
+  array-s true p v ts h e = just-rel (S′ e) h no-s λ l m a. name-rel (S′ e) 7 v no-s (λ n. Z.flagged-s P E r _ (a .expr e ⨟ with-n n _ (λ t. loads e (eArrayElement t (shown p))) (λ k. with-p p _ (λ q. loads e (eArrayElement (nameAt P k) q)) (λ q. Y.may-s P E r (Instr.arrayElement k q)))))
   array-s false p v ts h e = Z.failing-s P E r 4
 
   plain-s : (x : R.Plain) (p : Post) (v : Payload) (ts : Forest) {ls : List Lowerings} {ms : List Walkings} → Zip T′ ls ms → (e : Scope) → S′ e (lowerPlain S x p v ts ls (e .loop)) (walkPlain S x p v ts ms e)
@@ -157,7 +158,7 @@ module _ (S : Settings) (P : Program) (E : ℕ) (r : Result) where
       with-p p _ (λ q. some ms (m .expr e then asHash v (logs (eEqConst o (floatOf v) q)) (λ x. logs (eEqHash o x q))) λ b zs. m .expr e then pushes then b .expr e then takes 1 (eEq o q)) λ q.
       some-rel (S′ e) z (a .expr e ⨟ hash-rel (S′ e) v (Z.withConst-s P E r _ _ (λ t. logs (eEqConst o t (postAt P q))) (λ k. pl (eqConst o k q))) (λ x. Z.flagged-s P E r _ (Z.withHash-s P E r x _ (λ t. logs (eEqHash o t (postAt P q))) (λ k. pl (eqHash o k q)))))
       λ l m b ls ms z. Z.pushed-s P E r (a .expr e) (b .expr e ⨟ Z.taking-s P E r (eq o q))
-  plain-s (R.logic j) p v ts h e = some-rel (S′ e) h no-s λ l m a ls ms z. with-p p _ (λ q. K.junction (cond j (eAndStep q) (eOrStep q)) (cond j (eAndLast q) (eOrLast q)) m ms e) (λ q. junction-s j q a z e)
+  plain-s (R.logic j) p v ts h e = some-rel (S′ e) h no-s λ l m a ls ms z. with-p p _ (λ q. K.logic (cond j (eAndStep q) (eOrStep q)) (cond j (eAndLast q) (eOrLast q)) m ms e) (λ q. junction-s j q a z e)
   plain-s R.coalesce p v ts h e = two-rel (S′ e) h no-s λ l m a l′ m′ b. Y.coalesce-s P E r (a .expr (in-handler e)) (b .expr e) ⨟ post-s p
   plain-s R.conditional p v ts h e = some-rel (S′ e) h no-s λ l m a ls ms z. some-rel (S′ e) z no-s λ l m b ls ms z. a .expr e ⨟ Y.branch-s P E r (b .expr e) (one-rel (S′ e) z (Z.constant-s P E r 0) (λ l m c. c .expr e)) ⨟ post-s p
   plain-s R.statements p v ts h e = statements-s _ h e
@@ -175,16 +176,16 @@ module _ (S : Settings) (P : Program) (E : ℕ) (r : Result) where
   plain-s R.generic p v ts h e = Z.constant-s P E r _
   plain-s R.refused p v ts h e = no-s
 
-  chained-s : (p : Post) (v : Payload) {ls : List Lowerings} {ms : List Walkings} → Zip T′ ls ms → (n : Name) (e : Scope) → S′ e (L.chained p v ls n (e .loop)) (K.chained S p v ms e)
-  unfolding L.chained K.chained readingAction
+  chained-s : (p : Post) (v : Payload) {ls : List Lowerings} {ms : List Walkings} → Zip T′ ls ms → (n : Name) (e : Scope) → S′ e (L.chained p v ls n (e .loop)) (K.memberRead S p v ms e)
+  unfolding L.chained K.memberRead readingAction
   chained-s p v h n e = one-rel (S′ e) h no-s λ l m a. a .base n e ⨟ name-rel (S′ e) 6 v no-s (λ k. Z.withMember-s P E r _ _ (λ t. loads e (eMember t (shown p))) (λ i. with-p p _ (λ q. loads e (eMember (memberAt P i) q)) (λ q. Y.may-s P E r (member i q))))
 
-  member-read-s : (p : Post) (v : Payload) {ls : List Lowerings} {ms : List Walkings} → Zip T′ ls ms → (e : Scope) → S′ e (memberRead p v ls (e .loop)) (K.chained S p v ms e)
+  member-read-s : (p : Post) (v : Payload) {ls : List Lowerings} {ms : List Walkings} → Zip T′ ls ms → (e : Scope) → S′ e (memberRead p v ls (e .loop)) (K.memberRead S p v ms e)
   unfolding memberRead
   member-read-s p v h e = Z.flagged-s P E r _ (name-left (S′ e) 6 v no-s (λ n. chained-s p v h n e))
 
-  pointer-s : (p : Post) {ls : List Lowerings} {ms : List Walkings} → Zip T′ ls ms → (e : Scope) → S′ e (L.pointed p ls (e .loop)) (K.pointed S p ms e)
-  unfolding L.pointed K.pointed plainAction guardAction guardUp
+  pointer-s : (p : Post) {ls : List Lowerings} {ms : List Walkings} → Zip T′ ls ms → (e : Scope) → S′ e (L.pointer p ls (e .loop)) (K.pointer S p ms e)
+  unfolding L.pointer K.pointer plainAction guardAction guardUp
   pointer-s p h e = Z.flagged-s P E r _ (two-rel (S′ e) h no-s λ l m a l′ m′ b. with-p p _ (λ q. m .expr e then K.guarded (ePointerEnter q) same (m′ .expr e then logs (ePointerLeave q))) λ q. a .expr e ⨟ Y.guarded-s P E r (pointerEnter q) (b .expr e ⨟ pl (pointerLeave q)))
 
   return-s : (p : Post) {ls : List Lowerings} {ms : List Walkings} → Zip T′ ls ms → (e : Scope) → S′ e (L.returning p ls (e .loop)) (K.returning S p ms e)

@@ -15,7 +15,7 @@ use Rattle.semantics.specs.Lowering.{query, Lowerings, called}
 use Rattle.semantics.specs.Pieces.{Lowering, put, withPost, fork}
 use Rattle.semantics.specs.Run.{Action, eJumpIfFalsy, eLoopBegin, eLoopCheck, eEachBegin, Run, set-counts, set-outcomes, note, note-argument, handler+, handler-, same, opens, count, pick}
 use Rattle.semantics.specs.State.{toCleanup, toCheck, State}
-use Rattle.semantics.specs.Walk.{coalesce, Completion, normal, missing, broke, again, returned, halted, out, Walking, Scope, inside, pass, returns, misses, loads, branch, otherwise, ends, round, checks, rounds, nexts, begins, Walkings, segment}
+use Rattle.semantics.specs.Walk.{coalesce, Completion, normal, missing, broke, again, returned, halted, out, Walking, Scope, inside, pass, returns, misses, loads, conditional, otherwise, ends, round, checks, rounds, nexts, begins, Walkings, segment}
 use Rattle.semantics.specs.Walk as K
 use Rattle.semantics.specs.Pieces as Q
 use Rattle.semantics.specs.Lowering as L
@@ -77,7 +77,7 @@ guarded-b g a up d y {f} {u} b = flushed (record {
       (λ w k l. (k, l)) (w .outcomes);
 })
 
-pub branch-b : {f g : Lowering} {u v : Walking} → Fine f u → Fine g v → Fine (fork (guard jumpIfFalsy) jump same f g) (branch u v)
+pub branch-b : {f g : Lowering} {u v : Walking} → Fine f u → Fine g v → Fine (fork (guard jumpIfFalsy) jump same f g) (conditional u v)
 branch-b {f} {g} {u} {v} a b = flushed (record {
   less = λ w. pick-less (w .outcomes) (note eJumpIfFalsy w) out u v (λ w. omega arith) (a .less) (b .less);
   back = λ c n s m i. raised c _ (a .back c false _ _ m (b .back c false _ _ m i));
@@ -175,7 +175,7 @@ begins-in m c a x inner j h w k l = pick-in m c c out (λ w. inner (opens x (w .
     (λ w k l. subst (λ (z : Counts). In m c (inner (opens x z) (length (w .outcomes)) (set-counts (opens x z) w))) (sym k) (h (length (w .outcomes)) (set-counts (opens x c) w) refl l))
     (λ w k l. (k, l)) (w .outcomes)
 
-pub looped-b : {f : Lowering} {u : Walking} → Fine f u → Fine (Q.looped f) (K.looped u)
+pub looped-b : {f : Lowering} {u : Walking} → Fine f u → Fine (Q.countedLoop f) (K.countedLoop u)
 looped-b {f} {u} a = flushed (record {
   less = begins-less eLoopBegin true (λ c. rounds c u) (λ c n. rounds-less c u (a .less) n);
   back = λ c n s m i. raised (opens true c) _ (a .back (opens true c) false _ _ m i);

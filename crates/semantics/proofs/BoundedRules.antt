@@ -7,14 +7,15 @@ use lib.ListN.{length}
 use lib.Dec.{leb}
 use Rattle.ast.specs.Tree.{Name, Payload, Tree, node, Forest, nil, cons}
 use Rattle.numeric.specs.Post.{Post, isIdentity}
-use Rattle.program.specs.Instruction.{Plain, hash, resource, this, negate, not, andLast, orLast, pointerLeave, storeVar, storeTemp, storeMember, cmpConst, eqConst, eqHash, addAcc, addLast, mul, div, cmp, eq, hostMath, loadVar, loadTemp, loadCtx, arrayElement, member, Guard, divGuard, andStep, orStep, pointerEnter, EachNext, eachNextVar, eachNextTemp, plain, taking, reading, end, return}
+use Rattle.program.specs.Instruction as Instr
+use Rattle.program.specs.Instruction.{Plain, hash, resource, this, negate, not, andLast, orLast, pointerLeave, storeVar, storeTemp, storeMember, cmpConst, eqConst, eqHash, addAcc, addLast, mul, div, cmp, eq, hostMath, loadVar, loadTemp, loadCtx, member, Guard, divGuard, andStep, orStep, pointerEnter, EachNext, eachNextVar, eachNextTemp, plain, taking, reading, end, return}
 use Rattle.program.specs.Program.{Counts, StoreRoot, rootVar, rootTemp, rootOther}
 use Rattle.semantics.proofs.BoundedControl.{Whole, load-b, ret-b, break-b, continue-b, guarded-b, branch-b, coalesce-b, looped-b, eached-b, query-b}
 use Rattle.semantics.proofs.Bounds.{In, Less, Bound, Fine, ups, taken-all, ext-bound, after-less, _then-b_, pushed-b, pushed-fine, failing-b, put-b, take-b, flagged-b, post-b, name-b, temp-b, member-b, hash-b, withConst-b, store-b, constant-b, postInstr-b}
 use Rattle.semantics.proofs.Relations.{Zip, znil, zcons, zip-length, name-rel, name-left, hash-rel, math-rel, query-rel, one-rel, two-rel, some-rel, just-rel, three-rel}
 use Rattle.semantics.specs.Demand3.{Within}
 use Rattle.semantics.specs.Link.{lowered}
-use Rattle.semantics.specs.Lowering.{Lowerings, memberRead, withRoot, memberStore, isMember, targetRefusal, unless, equalConst, arrayElement-of, lowerPlain, lowerRule, lower, lowers}
+use Rattle.semantics.specs.Lowering.{Lowerings, memberRead, withRoot, memberStore, isMember, targetRefusal, unless, equalConst, arrayElement, lowerPlain, lowerRule, lower, lowers}
 use Rattle.semantics.specs.Payloads.{Path, path}
 use Rattle.semantics.specs.Pieces.{Lowering, flush, failing}
 use Rattle.ast.specs.Header.{Settings}
@@ -34,19 +35,19 @@ unfolding L.statements K.statements
 statements-b o znil e = constant-b o
 statements-b o (zcons a h) e = a .statement e then-b statements-b o h e
 
-junction-b : (state : Guard) (la : Plain) (x y : Action) {l : Lowerings} {m : Walkings} → Whole l m → {ls : List Lowerings} {ms : List Walkings} → Zip Whole ls ms → (e : Scope) → Fine (L.junction state la l ls (e .loop)) (K.junction x y m ms e)
-unfolding L.junction K.junction
+junction-b : (state : Guard) (la : Plain) (x y : Action) {l : Lowerings} {m : Walkings} → Whole l m → {ls : List Lowerings} {ms : List Walkings} → Zip Whole ls ms → (e : Scope) → Fine (L.logic state la l ls (e .loop)) (K.logic x y m ms e)
+unfolding L.logic K.logic
 junction-b state la x y a znil e = a .expr e then-b put-b (plain la) y
 junction-b state la x y a (zcons b h) e = a .expr e then-b guarded-b state x same same (λ c. refl) (junction-b state la x y b h e)
 
-addition-b : (p q : Post) {l : Lowerings} {m : Walkings} → Whole l m → {ls : List Lowerings} {ms : List Walkings} → Zip Whole ls ms → (e : Scope) → Bound (L.addition p l ls (e .loop)) (K.addition q m ms e) (operands- 1)
-unfolding L.addition K.addition
+addition-b : (p q : Post) {l : Lowerings} {m : Walkings} → Whole l m → {ls : List Lowerings} {ms : List Walkings} → Zip Whole ls ms → (e : Scope) → Bound (L.terms p l ls (e .loop)) (K.terms q m ms e) (operands- 1)
+unfolding L.terms K.terms
 addition-b p q a znil e = a .expr e then-b post-b p _ (λ k. take-b (taking (addLast k)) 1 (eAddLast q))
 addition-b p q a (zcons b h) e = a .expr e then-b put-b (plain addAcc) eAddAcc then-b addition-b p q b h e
 
 hosted-b : (f n k : ℕ) (p : Post) (x : Action) {l : Lowerings} {m : Walkings} → Whole l m → {ls : List Lowerings} {ms : List Walkings} → Zip Whole ls ms → (e : Scope)
-    → Bound (L.hosted f n p l ls (e .loop)) (K.hosted k x m ms e) (λ c. operands- k (ups (length ms) c))
-unfolding L.hosted K.hosted
+    → Bound (L.hostMath f n p l ls (e .loop)) (K.hostMath k x m ms e) (λ c. operands- k (ups (length ms) c))
+unfolding L.hostMath K.hostMath
 hosted-b f n k p x a znil e = a .expr e then-b post-b p _ (λ q. take-b (taking (hostMath f n q)) k x)
 hosted-b f n k p x a (zcons b h) e = pushed-b (a .expr e) (hosted-b f n k p x b h e)
 
@@ -95,9 +96,9 @@ no-b : Fine (failing 7) pass
 no-b = failing-b 6 pass-less
 
 module _ (S : Settings) where
-  array-b : (x : Bool) (p : Post) (v : Payload) (ts : Forest) {ls : List Lowerings} {ms : List Walkings} → Zip Whole ls ms → (e : Scope) → Fine (cond x (arrayElement-of p v ls (e .loop)) (failing 5)) (walkPlain S R.array p v ts ms e)
-  unfolding arrayElement-of walkPlain
-  array-b true p v ts h e = just-rel Fine h no-b λ l m a. name-rel Fine 7 v no-b (λ n. flagged-b _ (a .expr e then-b name-b n _ (λ k. post-b p _ λ q. load-b (reading (arrayElement k q)) _ e)))
+  array-b : (x : Bool) (p : Post) (v : Payload) (ts : Forest) {ls : List Lowerings} {ms : List Walkings} → Zip Whole ls ms → (e : Scope) → Fine (cond x (arrayElement p v ls (e .loop)) (failing 5)) (walkPlain S R.array p v ts ms e)
+  unfolding arrayElement walkPlain
+  array-b true p v ts h e = just-rel Fine h no-b λ l m a. name-rel Fine 7 v no-b (λ n. flagged-b _ (a .expr e then-b name-b n _ (λ k. post-b p _ λ q. load-b (reading (Instr.arrayElement k q)) _ e)))
   array-b false p v ts h e = failing-b 4 (just-rel Fine h no-b (λ l m a. name-rel Fine 7 v no-b (λ n. a .expr e then-b load-b end _ e)) .less)
 
   plain-b : (r : R.Plain) (p : Post) (v : Payload) (ts : Forest) {ls : List Lowerings} {ms : List Walkings} → Zip Whole ls ms → (e : Scope) → Fine (lowerPlain S r p v ts ls (e .loop)) (walkPlain S r p v ts ms e)
@@ -131,16 +132,16 @@ module _ (S : Settings) where
   plain-b R.generic p v ts h e = constant-b _
   plain-b R.refused p v ts h e = no-b
 
-  chained-b : (p : Post) (v : Payload) {ls : List Lowerings} {ms : List Walkings} → Zip Whole ls ms → (n : Name) (e : Scope) → Fine (L.chained p v ls n (e .loop)) (K.chained S p v ms e)
-  unfolding L.chained K.chained
+  chained-b : (p : Post) (v : Payload) {ls : List Lowerings} {ms : List Walkings} → Zip Whole ls ms → (n : Name) (e : Scope) → Fine (L.chained p v ls n (e .loop)) (K.memberRead S p v ms e)
+  unfolding L.chained K.memberRead
   chained-b p v h n e = one-rel Fine h no-b λ l m a. a .base n e then-b name-rel Fine 6 v no-b (λ k. member-b _ _ λ i. post-b p _ λ q. load-b (reading (member i q)) _ e)
 
-  member-read-b : (p : Post) (v : Payload) {ls : List Lowerings} {ms : List Walkings} → Zip Whole ls ms → (e : Scope) → Fine (memberRead p v ls (e .loop)) (K.chained S p v ms e)
+  member-read-b : (p : Post) (v : Payload) {ls : List Lowerings} {ms : List Walkings} → Zip Whole ls ms → (e : Scope) → Fine (memberRead p v ls (e .loop)) (K.memberRead S p v ms e)
   unfolding memberRead
   member-read-b p v h e = flagged-b _ (name-left Fine 6 v (failing-b 6 (chained-b p v h (record { hash = 0; text = [] }) e .less)) (λ n. chained-b p v h n e))
 
-  pointer-b : (p : Post) {ls : List Lowerings} {ms : List Walkings} → Zip Whole ls ms → (e : Scope) → Fine (L.pointed p ls (e .loop)) (K.pointed S p ms e)
-  unfolding L.pointed K.pointed
+  pointer-b : (p : Post) {ls : List Lowerings} {ms : List Walkings} → Zip Whole ls ms → (e : Scope) → Fine (L.pointer p ls (e .loop)) (K.pointer S p ms e)
+  unfolding L.pointer K.pointer
   pointer-b p h e = flagged-b _ (two-rel Fine h no-b λ l m a l′ m′ b. post-b p _ λ q. a .expr e then-b guarded-b (pointerEnter q) _ same same (λ c. refl) (b .expr e then-b put-b (plain (pointerLeave q)) _))
 
   return-b : (p : Post) {ls : List Lowerings} {ms : List Walkings} → Zip Whole ls ms → (e : Scope) → Fine (L.returning p ls (e .loop)) (K.returning S p ms e)

@@ -9,11 +9,12 @@ use lib.ListN.{length}
 use lib.Dec.{leb}
 use Rattle.ast.specs.Tree.{Name, Payload, pNone, pFloat, pHash, pMath, pName, pQuery, Tree, node, Forest, nil, cons}
 use Rattle.numeric.specs.Post.{Post, isIdentity, fold}
-use Rattle.program.specs.Instruction.{Plain, hash, resource, this, negate, not, andLast, orLast, pointerLeave, storeVar, storeTemp, storeMember, cmpConst, eqConst, eqHash, addAcc, addLast, mul, div, cmp, eq, hostMath, loadVar, loadTemp, loadCtx, arrayElement, member, Guard, divGuard, andStep, orStep, pointerEnter, jumpIfFalsy, EachNext, eachNextVar, eachNextTemp, plain, taking, reading, guard, end, jump, handlerPush, handlerPop, return, call}
+use Rattle.program.specs.Instruction as Instr
+use Rattle.program.specs.Instruction.{Plain, hash, resource, this, negate, not, andLast, orLast, pointerLeave, storeVar, storeTemp, storeMember, cmpConst, eqConst, eqHash, addAcc, addLast, mul, div, cmp, eq, hostMath, loadVar, loadTemp, loadCtx, member, Guard, divGuard, andStep, orStep, pointerEnter, jumpIfFalsy, EachNext, eachNextVar, eachNextTemp, plain, taking, reading, guard, end, jump, handlerPush, handlerPop, return, call}
 use Rattle.program.specs.Program.{Counts, StoreRoot, rootVar, rootTemp, rootOther}
 use Rattle.semantics.proofs.Costs.{Weight, weigh, weigh-append}
 use Rattle.semantics.specs.Link.{offsetsOf, lowered}
-use Rattle.semantics.specs.Lowering.{query, arguments, pointed, returning, Lowerings, memberRead, withRoot, memberStore, isMember, targetRefusal, unless, equalConst, close-segment, fill, called, arrayElement-of, lowerPlain, lowerRule, lower, lowers}
+use Rattle.semantics.specs.Lowering.{query, arguments, pointer, returning, Lowerings, memberRead, withRoot, memberStore, isMember, targetRefusal, unless, equalConst, close-segment, fill, called, arrayElement, lowerPlain, lowerRule, lower, lowers}
 use Rattle.semantics.specs.Machine.{go}
 use Rattle.semantics.specs.Payloads.{link, cases, asName, asHash, asMath, asQuery, constOf, one, two, three, some, just, Path, longer, path, paths}
 use Rattle.semantics.specs.Pieces.{Lowered, Lowering, put, failing, _⨾_, pushed, withConst, withPost, constant, postInstruction, fork, eached}
@@ -170,18 +171,18 @@ module _ (w : Weight) where
   statements-c o pnil l = C.weak w (C.constant-c w o) (omega arith)
   statements-c o (pcons a z) l = C.weak w (a .statement l then-c statements-c o z l) (omega arith)
 
-  junction-c : (state : Guard) (la : Plain) {a : Lowerings} {j : ℕ} → Whole a j → {xs : List Lowerings} {ts : Forest} → Pays xs ts → (l : Bool) → Cost (L.junction state la a xs l) (j + w .i + costs ts)
-  unfolding L.junction cost
+  junction-c : (state : Guard) (la : Plain) {a : Lowerings} {j : ℕ} → Whole a j → {xs : List Lowerings} {ts : Forest} → Pays xs ts → (l : Bool) → Cost (L.logic state la a xs l) (j + w .i + costs ts)
+  unfolding L.logic cost
   junction-c state la a pnil l = C.weak w (a .expr l then-c C.put-c w (plain la)) (omega arith)
   junction-c state la a (pcons b z) l = C.weak w (a .expr l then-c C.guarded-c w state same (junction-c state la b z l)) (omega arith)
 
-  addition-c : (p : Post) {a : Lowerings} {j : ℕ} → Whole a j → {xs : List Lowerings} {ts : Forest} → Pays xs ts → (l : Bool) → Cost (L.addition p a xs l) (w .po + w .i + j + costs ts)
-  unfolding L.addition cost
+  addition-c : (p : Post) {a : Lowerings} {j : ℕ} → Whole a j → {xs : List Lowerings} {ts : Forest} → Pays xs ts → (l : Bool) → Cost (L.terms p a xs l) (w .po + w .i + j + costs ts)
+  unfolding L.terms cost
   addition-c p a pnil l = C.weak w (a .expr l then-c C.post-c w p _ (λ q. C.put-c w (taking (addLast q)))) (omega arith)
   addition-c p a (pcons b z) l = C.weak w (a .expr l then-c C.put-c w (plain addAcc) then-c addition-c p b z l) (omega arith)
 
-  hosted-c : (f k : ℕ) (p : Post) {a : Lowerings} {j : ℕ} → Whole a j → {xs : List Lowerings} {ts : Forest} → Pays xs ts → (l : Bool) → Cost (L.hosted f k p a xs l) (w .po + w .i + j + costs ts)
-  unfolding L.hosted cost
+  hosted-c : (f k : ℕ) (p : Post) {a : Lowerings} {j : ℕ} → Whole a j → {xs : List Lowerings} {ts : Forest} → Pays xs ts → (l : Bool) → Cost (L.hostMath f k p a xs l) (w .po + w .i + j + costs ts)
+  unfolding L.hostMath cost
   hosted-c f k p a pnil l = C.weak w (a .expr l then-c C.post-c w p _ (λ q. C.put-c w (taking (hostMath f k q)))) (omega arith)
   hosted-c f k p a (pcons b z) l = C.weak w (C.pushed-c w (a .expr l) (hosted-c f k p b z l)) (omega arith)
 
@@ -302,26 +303,26 @@ module _ (w : Weight) where
   equal-c o p v (pcons a pnil) l = C.weak w (C.post-c w p _ λ q. a .expr l then-c equal-const-c o v q) (omega arith)
   equal-c o p v (pcons a (pcons b z)) l = C.weak w (C.post-c w p _ λ q. C.pushed-c w (a .expr l) (b .expr l then-c C.put-c w (taking (eq o q)))) (omega arith)
 
-  add-c : (p : Post) {xs : List Lowerings} {ts : Forest} → Pays xs ts → (l : Bool) → Cost (some xs (failing 7) λ a ys. some ys (a .expr l ⨾ postInstruction p) λ b zs. pushed (a .expr l) (L.addition p b zs l)) (own + costs ts)
+  add-c : (p : Post) {xs : List Lowerings} {ts : Forest} → Pays xs ts → (l : Bool) → Cost (some xs (failing 7) λ a ys. some ys (a .expr l ⨾ postInstruction p) λ b zs. pushed (a .expr l) (L.terms p b zs l)) (own + costs ts)
   unfolding cost
   add-c p pnil l = C.failing-c w 7
   add-c p (pcons a pnil) l = C.weak w (a .expr l then-c C.postInstr-c w (isIdentity p) p) (omega arith)
   add-c p (pcons a (pcons b z)) l = C.weak w (C.pushed-c w (a .expr l) (addition-c p b z l)) (omega arith)
 
-  host-c : (f k : ℕ) (x : Bool) (p : Post) {xs : List Lowerings} {ts : Forest} → Pays xs ts → (l : Bool) → Cost (some xs (failing 7) λ a ys. cond x (L.hosted f k p a ys l) (failing 7)) (own + costs ts)
+  host-c : (f k : ℕ) (x : Bool) (p : Post) {xs : List Lowerings} {ts : Forest} → Pays xs ts → (l : Bool) → Cost (some xs (failing 7) λ a ys. cond x (L.hostMath f k p a ys l) (failing 7)) (own + costs ts)
   unfolding cost
   host-c f k x p pnil l = C.failing-c w 7
   host-c f k x p (pcons a z) l = C.weak w (fits-c x (hosted-c f k p a z l)) (omega arith)
 
-  logic-c : (j : Bool) (p : Post) {xs : List Lowerings} {ts : Forest} → Pays xs ts → (l : Bool) → Cost (some xs (failing 7) λ a ys. withPost p λ q. L.junction (cond j (andStep q) (orStep q)) (cond j (andLast q) (orLast q)) a ys l) (own + costs ts)
+  logic-c : (j : Bool) (p : Post) {xs : List Lowerings} {ts : Forest} → Pays xs ts → (l : Bool) → Cost (some xs (failing 7) λ a ys. withPost p λ q. L.logic (cond j (andStep q) (orStep q)) (cond j (andLast q) (orLast q)) a ys l) (own + costs ts)
   unfolding cost
   logic-c j p pnil l = C.failing-c w 7
   logic-c j p (pcons a z) l = C.weak w (C.post-c w p _ λ q. junction-c (cond j (andStep q) (orStep q)) (cond j (andLast q) (orLast q)) a z l) (omega arith)
 
   module _ (S : Settings) where
-    array-c : (x : Bool) (p : Post) (v : Payload) {xs : List Lowerings} {ts : Forest} → Pays xs ts → (l : Bool) → Cost (cond x (arrayElement-of p v xs l) (failing 5)) (own + pay v + costs ts)
-    unfolding arrayElement-of
-    array-c true p v {ts = ts} h l = just-c h λ a t k e. name-c (λ f. Cost f (own + pay v + costs ts)) 7 v (C.failing-c w 7) (λ n i. C.flagged-c w _ (C.weak w (k .expr l then-c C.withName-c w n _ (λ k. C.post-c w p _ λ q. C.put-c w (reading (arrayElement k q)))) (omega arith)))
+    array-c : (x : Bool) (p : Post) (v : Payload) {xs : List Lowerings} {ts : Forest} → Pays xs ts → (l : Bool) → Cost (cond x (arrayElement p v xs l) (failing 5)) (own + pay v + costs ts)
+    unfolding arrayElement
+    array-c true p v {ts = ts} h l = just-c h λ a t k e. name-c (λ f. Cost f (own + pay v + costs ts)) 7 v (C.failing-c w 7) (λ n i. C.flagged-c w _ (C.weak w (k .expr l then-c C.withName-c w n _ (λ k. C.post-c w p _ λ q. C.put-c w (reading (Instr.arrayElement k q)))) (omega arith)))
     array-c false p v h l = C.failing-c w 5
 
     plain-c : (r : R.Plain) (p : Post) (v : Payload) (ts : Forest) {xs : List Lowerings} → Pays xs ts → (l : Bool) → Cost (lowerPlain S r p v ts xs l) (own + pay v + costs ts)
@@ -363,8 +364,8 @@ module _ (w : Weight) where
     unfolding memberRead
     member-read-c p v {ts = ts} h l = C.flagged-c w _ (name-c (λ f. Cost f (own + pay v + costs ts)) 6 v (C.failing-c w 7) (λ n e. chained-c p v h n l))
 
-    pointer-c : (p : Post) (v : Payload) {xs : List Lowerings} {ts : Forest} → Pays xs ts → (l : Bool) → Cost (pointed p xs l) (own + pay v + costs ts)
-    unfolding pointed
+    pointer-c : (p : Post) (v : Payload) {xs : List Lowerings} {ts : Forest} → Pays xs ts → (l : Bool) → Cost (pointer p xs l) (own + pay v + costs ts)
+    unfolding pointer
     pointer-c p v {ts = ts} h l = C.flagged-c w _ (two-c (λ f. Cost f (own + pay v + costs ts)) h (C.failing-c w 7) (λ a t j b u k e. C.weak w (C.post-c w p _ (λ q. j .expr l then-c C.guarded-c w (pointerEnter q) same (k .expr l then-c C.put-c w (plain (pointerLeave q))))) (omega arith)))
 
     return-c : (p : Post) (v : Payload) {xs : List Lowerings} {ts : Forest} → Pays xs ts → (l : Bool) → Cost (returning p xs l) (own + pay v + costs ts)

@@ -13,7 +13,7 @@ pub use Rattle.program.proofs.Length.{sum, weigh}
 use Rattle.semantics.specs.Link.{offsetsOf}
 use Rattle.semantics.specs.Lowering.{fill}
 use Rattle.semantics.specs.Machine.{go}
-use Rattle.semantics.specs.Pieces.{Lowered, Lowering, flush, put, nothing, failing, putConst, _⨾_, pushed, flagged, itself, withConst, withHash, hashKey, withName, withSlot, withTemp, readKey, withMember, withStore, postKey, post-if, withPost, constant, guarded, fork, aim, looped, eached}
+use Rattle.semantics.specs.Pieces.{Lowered, Lowering, flush, put, nothing, failing, putConst, _⨾_, pushed, flagged, itself, withConst, withHash, hashKey, withName, withSlot, withTemp, readKey, withMember, withStore, postKey, post-if, withPost, constant, guarded, fork, aim, countedLoop, eached}
 use Rattle.semantics.specs.Positions.{past, slot, intern, pair-discrete}
 use Rattle.semantics.specs.Run.{operand+, opens}
 use Rattle.semantics.specs.State.{Item, instr, CallInfo, MemberRead, set-consts, set-posts, set-hashes, set-names, set-temps, set-members, set-stores, Flags, State, set-pools, raise}
@@ -253,7 +253,7 @@ module _ (w : Weight) where
         let e = weigh-append (w .i) (x .code) (instr (y′ (past (y .code) (suc m))) ∷ y .code) in omega arith;
   })
 
-  pub looped-c : {f : Lowering} {k : ℕ} → Cost f k → Cost (looped f) (w .i + w .i + w .i + k)
+  pub looped-c : {f : Lowering} {k : ℕ} → Cost f k → Cost (countedLoop f) (w .i + w .i + w .i + k)
   looped-c {f} a = flushed (record {
     by = λ c n s.
         let x = f (opens true c) false (suc n) (raise (opens true c) s) in

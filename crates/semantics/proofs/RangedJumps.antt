@@ -10,7 +10,7 @@ use Rattle.program.specs.Program.{Counts}
 use Rattle.semantics.proofs.Costs.{weigh-map, weigh-append}
 use Rattle.semantics.proofs.Ranges.{Fits, Aims, Under, Ranged, past-weigh, shift, Up, every-append, flushed}
 use Rattle.semantics.specs.Link.{relocate, settle}
-use Rattle.semantics.specs.Pieces.{Lowering, guarded, fork, aim, looped, eached}
+use Rattle.semantics.specs.Pieces.{Lowering, guarded, fork, aim, countedLoop, eached}
 use Rattle.semantics.specs.Positions.{past}
 use Rattle.semantics.specs.Run.{opens}
 use Rattle.semantics.specs.State.{Item, instr, toCleanup, toCheck, raise}
@@ -104,7 +104,7 @@ open-by true = record { by = λ c. omega arith }
 open-by false = record { by = λ c. omega arith }
 
 module _ {is : List ℕ} where
-  pub looped-r : {f : Lowering} → Ranged is f → Ranged is (looped f)
+  pub looped-r : {f : Lowering} → Ranged is f → Ranged is (countedLoop f)
   looped-r {f} a = flushed (record {
     grows = λ c n s.
         let t = raise (opens true c) s in

@@ -14,7 +14,8 @@ use Rattle.numeric.proofs.PostFits.{fold-fits-four}
 use Rattle.numeric.specs.Post.{Post, isIdentity}
 use Rattle.program.specs.Fits.{Below, Every, FitPost, rootIndex}
 use Rattle.program.specs.Image.{bit, wordOf}
-use Rattle.program.specs.Instruction.{post, hash, resource, this, negate, not, andLast, orLast, pointerLeave, storeVar, storeTemp, storeMember, cmpConst, eqConst, eqHash, addAcc, addLast, mul, div, cmp, eq, hostMath, loadVar, loadTemp, loadCtx, arrayElement, member, divGuard, andStep, orStep, pointerEnter, jumpIfFalsy, EachNext, eachNextVar, eachNextTemp, plain, taking, reading, guard, jump, handlerPush, handlerPop, return, eachNext}
+use Rattle.program.specs.Instruction as Instr
+use Rattle.program.specs.Instruction.{post, hash, resource, this, negate, not, andLast, orLast, pointerLeave, storeVar, storeTemp, storeMember, cmpConst, eqConst, eqHash, addAcc, addLast, mul, div, cmp, eq, loadVar, loadTemp, loadCtx, member, divGuard, andStep, orStep, pointerEnter, jumpIfFalsy, EachNext, eachNextVar, eachNextTemp, plain, taking, reading, guard, jump, handlerPush, handlerPop, return, eachNext}
 use Rattle.program.specs.Kinds.{USES-RANDOM, USES-RANDOM-OP}
 use Rattle.program.specs.Program.{StoreRoot, rootVar, rootTemp, rootOther}
 use Rattle.semantics.proofs.CostedRules.{own}
@@ -24,7 +25,7 @@ use Rattle.semantics.proofs.RangedJumps.{fits-jump, guarded-r, fork-r, 
 use Rattle.semantics.proofs.RangedPools.{free, withTemp-r, withStore-r, constant-r, withConst-r, withHash-r, withName-r, withMember-r, post-r}
 use Rattle.semantics.proofs.Ranges.{Fits, Aims, FitText, Under, Ranged, shift, Up, sets-fit, not-fit, queried-fit, every-append, _then-r_, pushed-r, nothing-r, failing-r, put-r, jumps-r, flagged-r}
 use Rattle.semantics.specs.Link.{relocate, settle}
-use Rattle.semantics.specs.Lowering.{statements, junction, addition, hosted, stores, target, eachOf, variable, loaded, chained, pointed, returning, Lowerings, memberRead, withRoot, memberStore, isMember, targetRefusal, unless, equalConst, isEmpty, arrayElement-of, lowerPlain, lowerRule, lower, lowers}
+use Rattle.semantics.specs.Lowering.{statements, logic, terms, hostMath, stores, target, eachOf, variable, loaded, chained, pointer, returning, Lowerings, memberRead, withRoot, memberStore, isMember, targetRefusal, unless, equalConst, isEmpty, arrayElement, lowerPlain, lowerRule, lower, lowers}
 use Rattle.semantics.specs.Payloads.{link, constOf, one, two, three, some, just, Path, path, paths}
 use Rattle.semantics.specs.Pieces.{Lowering, put, nothing, failing, withPost}
 use Rattle.ast.specs.Header.{Settings}
@@ -151,28 +152,28 @@ unfolding settle relocate wordOf
 lasts true q k b i = omega arith
 lasts false q k b i = omega arith
 
-junction-r : (j : Bool) (q : ℕ) (a : Lowerings) → Ranges a → (xs : List Lowerings) → Every Ranges xs → (l : Bool) → Ranged (q ∷ []) (junction (cond j (andStep q) (orStep q)) (cond j (andLast q) (orLast q)) a xs l)
-unfolding junction
+junction-r : (j : Bool) (q : ℕ) (a : Lowerings) → Ranges a → (xs : List Lowerings) → Every Ranges xs → (l : Bool) → Ranged (q ∷ []) (logic (cond j (andStep q) (orStep q)) (cond j (andLast q) (orLast q)) a xs l)
+unfolding logic
 junction-r j q a fa [] z l = free (fa .expr l) then-r put-r (plain (cond j (andLast q) (orLast q))) (λ u. lasts j q (u .0))
 junction-r j q a fa (b ∷ xs) z l = free (fa .expr l) then-r guarded-r (cond j (andStep q) (orStep q)) same up-same (λ u. steps j q (u .0)) (junction-r j q b (z .0) xs (z .1) l)
 
-addition-r : (p : Post) → FitPost p → (a : Lowerings) → Ranges a → (xs : List Lowerings) → Every Ranges xs → (l : Bool) → Ranged [] (addition p a xs l)
-unfolding addition settle relocate wordOf
+addition-r : (p : Post) → FitPost p → (a : Lowerings) → Ranges a → (xs : List Lowerings) → Every Ranges xs → (l : Bool) → Ranged [] (terms p a xs l)
+unfolding terms settle relocate wordOf
 addition-r p fp a fa [] z l = fa .expr l then-r post-r p fp _ (λ q. put-r (taking (addLast q)) (λ u b h. omega (arith, u .0)))
 addition-r p fp a fa (b ∷ xs) z l = fa .expr l then-r put-r (plain addAcc) (λ u b h. omega arith) then-r addition-r p fp b (z .0) xs (z .1) l
 
-hosted-r : (f k : ℕ) → Below 2 f → Below 1 k → (p : Post) → FitPost p → (a : Lowerings) → Ranges a → (xs : List Lowerings) → Every Ranges xs → (l : Bool) → Ranged [] (hosted f k p a xs l)
-unfolding hosted settle relocate wordOf
-hosted-r f k ff fk p fp a fa [] z l = fa .expr l then-r post-r p fp _ (λ q. put-r (taking (hostMath f k q)) (λ u b h. omega (arith, u .0)))
+hosted-r : (f k : ℕ) → Below 2 f → Below 1 k → (p : Post) → FitPost p → (a : Lowerings) → Ranges a → (xs : List Lowerings) → Every Ranges xs → (l : Bool) → Ranged [] (hostMath f k p a xs l)
+unfolding hostMath settle relocate wordOf
+hosted-r f k ff fk p fp a fa [] z l = fa .expr l then-r post-r p fp _ (λ q. put-r (taking (Instr.hostMath f k q)) (λ u b h. omega (arith, u .0)))
 hosted-r f k ff fk p fp a fa (b ∷ xs) z l = pushed-r (fa .expr l) (hosted-r f k ff fk p fp b (z .0) xs (z .1) l)
 
-few-r : (f n : ℕ) → Below 2 f → (p : Post) → FitPost p → (a : Lowerings) → Ranges a → (xs : List Lowerings) → Every Ranges xs → (l : Bool) → (x : Bool) → leb n 255 ≡ x → Ranged [] (cond x (hosted f n p a xs l) (failing 7))
+few-r : (f n : ℕ) → Below 2 f → (p : Post) → FitPost p → (a : Lowerings) → Ranges a → (xs : List Lowerings) → Every Ranges xs → (l : Bool) → (x : Bool) → leb n 255 ≡ x → Ranged [] (cond x (hostMath f n p a xs l) (failing 7))
 few-r f n ff p fp a fa xs z l true e = hosted-r f n ff (let h : n ≤ 255 = leb-true n 255 e in omega arith) p fp a fa xs z l
 few-r f n ff p fp a fa xs z l false e = failing-r 7
 
-array-r : (x : Bool) (p : Post) → FitPost p → (v : Payload) → PayloadFits v → (xs : List Lowerings) → Every Ranges xs → (l : Bool) → Ranged [] (cond x (arrayElement-of p v xs l) (failing 5))
-unfolding arrayElement-of settle relocate wordOf
-array-r true p fp v fv xs z l = just-r (Ranged []) xs z (failing-r 7) λ a fa. name-r (Ranged []) 7 v fv (failing-r 7) (λ n fn. flagged-r _ not-fit (fa .expr l then-r withName-r n fn _ (λ k. post-r p fp _ (λ q. put-r (reading (arrayElement k q)) (λ u b h. omega (arith, u .0, u .1 .0))))))
+array-r : (x : Bool) (p : Post) → FitPost p → (v : Payload) → PayloadFits v → (xs : List Lowerings) → Every Ranges xs → (l : Bool) → Ranged [] (cond x (arrayElement p v xs l) (failing 5))
+unfolding arrayElement settle relocate wordOf
+array-r true p fp v fv xs z l = just-r (Ranged []) xs z (failing-r 7) λ a fa. name-r (Ranged []) 7 v fv (failing-r 7) (λ n fn. flagged-r _ not-fit (fa .expr l then-r withName-r n fn _ (λ k. post-r p fp _ (λ q. put-r (reading (Instr.arrayElement k q)) (λ u b h. omega (arith, u .0, u .1 .0))))))
 array-r false p fp v fv xs z l = failing-r 5
 
 unary-r : (x : Bool) (q : ℕ) → q ≤ 65535 → Fits (instr (plain (cond x (negate q) (not q))))
@@ -319,8 +320,8 @@ module _ (S : Settings) where
   unfolding memberRead
   member-read-r p fp v fv xs z l = flagged-r _ (λ f g. sets-fit 16 (omega arith) _ (not-fit f g)) (name-r (Ranged []) 6 v fv (failing-r 7) (λ n fn. chained-r p fp v fv xs z n fn l))
 
-  pointer-r : (p : Post) → FitPost p → (xs : List Lowerings) → Every Ranges xs → (l : Bool) → Ranged [] (pointed p xs l)
-  unfolding pointed settle relocate wordOf
+  pointer-r : (p : Post) → FitPost p → (xs : List Lowerings) → Every Ranges xs → (l : Bool) → Ranged [] (pointer p xs l)
+  unfolding pointer settle relocate wordOf
   pointer-r p fp xs z l = flagged-r _ (λ f g. sets-fit 128 (omega arith) _ (not-fit f g)) (two-r (Ranged []) xs z (failing-r 7) λ a fa b fb. post-r p fp _ λ q. free (fa .expr l) then-r guarded-r (pointerEnter q) same up-same (λ u. aims-pointer q (u .0)) (free (fb .expr l) then-r put-r (plain (pointerLeave q)) (λ u b h. omega (arith, u .0))))
 
   return-r : (p : Post) → FitPost p → (xs : List Lowerings) → Every Ranges xs → (l : Bool) → Ranged [] (returning p xs l)

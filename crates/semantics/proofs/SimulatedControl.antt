@@ -15,7 +15,7 @@ use Rattle.semantics.specs.Pieces.{Lowering, put, fork}
 use Rattle.semantics.specs.Positions.{_⊕_, past}
 use Rattle.semantics.specs.Run.{eJumpIfFalsy, eLoopBegin, eLoopCheck, eEachBegin, Run, set-counts, set-outcomes, note, handler+, handler-, same, opens, count, pick, Result}
 use Rattle.semantics.specs.State.{Item, instr, toCleanup, toCheck, State, raise}
-use Rattle.semantics.specs.Walk.{coalesce, Completion, normal, missing, broke, again, returned, halted, out, Walking, Scope, in-loop, in-handler, returns, misses, loads, branch, otherwise, ends, round, checks, rounds, nexts}
+use Rattle.semantics.specs.Walk.{coalesce, Completion, normal, missing, broke, again, returned, halted, out, Walking, Scope, in-loop, in-handler, returns, misses, loads, conditional, otherwise, ends, round, checks, rounds, nexts}
 use Rattle.semantics.specs.Walk as K
 use Rattle.semantics.specs.Pieces as Q
 use Rattle.semantics.proofs.Simulation as Z
@@ -88,7 +88,7 @@ module _ (P : Program) (E : ℕ) (r : Result) where
   shift e κ n k h (halted w) q = q
   shift e κ n k h (out w) q = q
 
-  pub branch-s : {e : Scope} {f g : Lowering} {u v : Walking} → Z.Sim P E r e f u → Z.Sim P E r e g v → Z.Sim P E r e (fork (guard jumpIfFalsy) jump same f g) (branch u v)
+  pub branch-s : {e : Scope} {f g : Lowering} {u v : Walking} → Z.Sim P E r e f u → Z.Sim P E r e g v → Z.Sim P E r e (fork (guard jumpIfFalsy) jump same f g) (conditional u v)
   unfolding settle relocate execute guardAction guardUp
   branch-s {e} {f} {g} {u} {v} a b = Z.flushed P E r (record {
     grow = λ c n s. Z.raised P E r _ s ⟫ a .grow _ _ _ _ ⟫ b .grow _ _ _ _;
@@ -191,7 +191,7 @@ module _ (P : Program) (E : ℕ) (r : Result) where
   aim-has κ x k l n (toCleanup ∷ d) c h = (h .0, aim-has κ x k l (suc n) d c (h .1))
   aim-has κ x k l n (toCheck ∷ d) c h = (h .0, aim-has κ x k l (suc n) d c (h .1))
 
-  pub looped-s : {e : Scope} {f : Lowering} {u : Walking} → Less u → Z.Sim P E r (in-loop e) f u → Z.Sim P E r e (Q.looped f) (K.looped u)
+  pub looped-s : {e : Scope} {f : Lowering} {u : Walking} → Less u → Z.Sim P E r (in-loop e) f u → Z.Sim P E r e (Q.countedLoop f) (K.countedLoop u)
   unfolding settle relocate execute hasHandler
   looped-s {e} {f} {u} less a = Z.flushed P E r (record {
     grow = λ c n s. Z.raised P E r _ s ⟫ a .grow _ _ _ _;

@@ -24,7 +24,7 @@ use Rattle.semantics.specs.Run.{operand+, handler+, same}
 use Rattle.semantics.specs.State.{Item, instr, toCleanup, toCheck, CallInfo, MemberRead, set-calls}
 use Rattle.semantics.specs.State.{set-segments, sets, notFloatOnly, queried, State, set-pools}
 use Rattle.semantics.specs.Pieces.{Lowered, Lowering, put, failing, _⨾_, pushed, flagged, withConst, withHash, withName, withTemp}
-use Rattle.semantics.specs.Pieces.{withMember, withStore, withPost, constant, postInstruction, guarded, fork, looped, eached, jumps}
+use Rattle.semantics.specs.Pieces.{withMember, withStore, withPost, constant, postInstruction, guarded, fork, countedLoop, eached, jumps}
 
 infixr 50 _>>_
 -- what `do` is read by: one piece after another, and an entry's index handed to the rest
@@ -116,13 +116,13 @@ target (cons (node op q v us) ts) f p = unless (targetRefusal (ruleAt op) v) (fl
 
 -- ---- logic
 
-unfoldable pub junction : Guard → Plain → Lowerings → List Lowerings → Bool → Lowering
-junction step last a [] l = do
+unfoldable pub logic : Guard → Plain → Lowerings → List Lowerings → Bool → Lowering
+logic step last a [] l = do
   a .expr l
   put (I.plain last)
-junction step last a (b ∷ xs) l = do
+logic step last a (b ∷ xs) l = do
   a .expr l
-  guarded step same (junction step last b xs l)
+  guarded step same (logic step last b xs l)
 
 -- 01, Slips: "equality gives EqHash"; not float only
 unfoldable pub equalConst : ℕ → Payload → ℕ → Lowering
@@ -132,22 +132,22 @@ equalConst o v q = asHash v
 
 -- ---- arith
 
-unfoldable pub addition : Post → Lowerings → List Lowerings → Bool → Lowering
-addition p a [] l = do
+unfoldable pub terms : Post → Lowerings → List Lowerings → Bool → Lowering
+terms p a [] l = do
   a .expr l
   q ← withPost p
   put (I.taking (I.addLast q))
-addition p a (b ∷ xs) l = do
+terms p a (b ∷ xs) l = do
   a .expr l
   put (I.plain I.addAcc)
-  addition p b xs l
+  terms p b xs l
 
-unfoldable pub hosted : ℕ → ℕ → Post → Lowerings → List Lowerings → Bool → Lowering
-hosted f k p a [] l = do
+unfoldable pub hostMath : ℕ → ℕ → Post → Lowerings → List Lowerings → Bool → Lowering
+hostMath f k p a [] l = do
   a .expr l
   q ← withPost p
   put (I.taking (I.hostMath f k q))
-hosted f k p a (b ∷ xs) l = pushed (a .expr l) (hosted f k p b xs l)
+hostMath f k p a (b ∷ xs) l = pushed (a .expr l) (hostMath f k p b xs l)
 
 -- ---- calls
 
@@ -190,8 +190,8 @@ abbrev pub query : ℕ → ℕ → Post → List Lowerings → Lowering
 query v m p xs c b n s = withPost p (λ q. put (I.call (length (s .pools .calls)) q)) c b n (called v m xs c s)
 
 -- "pointer and load intern the post first"; not float only, USES_ARROW
-unfoldable pub pointed : Post → List Lowerings → Bool → Lowering
-pointed p xs l = flagged (λ f. sets USES-ARROW (notFloatOnly f)) (two xs (failing Refusal.FAILED) λ a b. do
+unfoldable pub pointer : Post → List Lowerings → Bool → Lowering
+pointer p xs l = flagged (λ f. sets USES-ARROW (notFloatOnly f)) (two xs (failing Refusal.FAILED) λ a b. do
   q ← withPost p
   a .expr l
   guarded (I.pointerEnter q) same do
@@ -228,8 +228,8 @@ variable (cons (node op q v us) ts) f = eachOf v f
 -- ---- every rule
 
 -- "Array: index, name, post"; exactly one child
-unfoldable pub arrayElement-of : Post → Payload → List Lowerings → Bool → Lowering
-arrayElement-of p v xs l = just xs (failing Refusal.FAILED) λ a. asName Kind.ARRAY-VARIABLE v (failing Refusal.FAILED) λ n. flagged notFloatOnly do
+unfoldable pub arrayElement : Post → Payload → List Lowerings → Bool → Lowering
+arrayElement p v xs l = just xs (failing Refusal.FAILED) λ a. asName Kind.ARRAY-VARIABLE v (failing Refusal.FAILED) λ n. flagged notFloatOnly do
   a .expr l
   k ← withName n
   q ← withPost p
@@ -237,7 +237,7 @@ arrayElement-of p v xs l = just xs (failing Refusal.FAILED) λ a. asName Kind.AR
 
 module _ (S : Settings) where
   unfoldable pub lowerPlain : R.Plain → Post → Payload → Forest → List Lowerings → Bool → Lowering
-  lowerPlain R.array p v ts xs l = cond (S .fromHost) (arrayElement-of p v xs l) (failing Refusal.USES-ARRAYS)
+  lowerPlain R.array p v ts xs l = cond (S .fromHost) (arrayElement p v xs l) (failing Refusal.USES-ARRAYS)
   lowerPlain R.usesArrays p v ts xs l = failing Refusal.USES-ARRAYS
   lowerPlain R.usesResources p v ts xs l = failing Refusal.USES-RESOURCES
   lowerPlain R.float p v ts xs l = constant (floatOf v)
@@ -273,7 +273,7 @@ module _ (S : Settings) where
           put (I.taking (I.eq o q))
   lowerPlain (R.logic j) p v ts xs l = P.some xs (failing Refusal.FAILED) λ a ys. do
     q ← withPost p
-    junction (cond j (I.andStep q) (I.orStep q)) (cond j (I.andLast q) (I.orLast q)) a ys l
+    logic (cond j (I.andStep q) (I.orStep q)) (cond j (I.andLast q) (I.orLast q)) a ys l
   lowerPlain R.coalesce p v ts xs l = two xs (failing Refusal.FAILED) λ a b. do
     fork I.handlerPush I.handlerPop handler+ (a .expr l) (b .expr l)
     postInstruction p
@@ -284,7 +284,7 @@ module _ (S : Settings) where
   lowerPlain R.statements p v ts xs l = statements (p .offset) xs l
   lowerPlain R.loop p v ts xs l = flagged (sets HAS-LOOPS) (two xs (failing Refusal.FAILED) λ a b. do
     a .expr l
-    looped (b .expr true)
+    countedLoop (b .expr true)
     constant (fold p 0))
   lowerPlain R.forEach p v ts xs l = flagged (λ f. notFloatOnly (sets HAS-LOOPS f)) (three xs (failing Refusal.FAILED) λ a b c. variable ts λ i. do
     b .expr l
@@ -302,7 +302,7 @@ module _ (S : Settings) where
       (do
         a .expr l
         postInstruction p)
-      λ b zs. pushed (a .expr l) (addition p b zs l)
+      λ b zs. pushed (a .expr l) (terms p b zs l)
   lowerPlain R.mul p v ts xs l = two xs (failing Refusal.FAILED) λ a b. pushed (a .expr l) (do b .expr l; q ← withPost p; put (I.taking (I.mul q)))
   lowerPlain R.div p v ts xs l = two xs (failing Refusal.FAILED) λ a b. do
     b .expr l
@@ -311,7 +311,7 @@ module _ (S : Settings) where
       q ← withPost p
       put (I.taking (I.div q))
   lowerPlain (R.hostMath u) p v ts xs l = flagged (sets (cond u (USES-RANDOM + USES-RANDOM-OP) 0)) (asMath v (failing Refusal.FAILED) λ f.
-      P.some xs (failing Refusal.FAILED) λ a ys. cond (leb (length xs) 255) (hosted f (length xs) p a ys l) (failing Refusal.FAILED))
+      P.some xs (failing Refusal.FAILED) λ a ys. cond (leb (length xs) 255) (hostMath f (length xs) p a ys l) (failing Refusal.FAILED))
   lowerPlain R.generic p v ts xs l = constant (fold p (constOf v))
   lowerPlain R.refused p v ts xs l = failing Refusal.FAILED
 
@@ -326,7 +326,7 @@ module _ (S : Settings) where
   }
   lowerRule R.member p v ts xs = record { expr = memberRead p v xs; statement = memberRead p v xs; base = chained p v xs }
   lowerRule R.entity p v ts xs = alike (λ l. loaded v p)
-  lowerRule R.pointer p v ts xs = alike (pointed p xs)
+  lowerRule R.pointer p v ts xs = alike (pointer p xs)
   lowerRule (R.plain r) p v ts xs = alike (lowerPlain r p v ts xs)
 
   unfoldable mutual

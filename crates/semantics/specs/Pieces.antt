@@ -168,8 +168,8 @@ aim check-at cleanup-at toCleanup = instr (I.jump cleanup-at)
 aim check-at cleanup-at toCheck = instr (I.jump check-at)
 
 -- LoopBegin to the exit, the body, LoopCheck back to the body, LoopEnd
-abbrev pub looped : Lowering → Lowering
-looped f c = flush λ n s.
+abbrev pub countedLoop : Lowering → Lowering
+countedLoop f c = flush λ n s.
     let x = f (opens true c) false (suc n) (raise (opens true c) s) in
     let check-at = past (x .code) (suc n) in
     let body = map (aim check-at (suc check-at)) (x .code) ++ (instr (I.loopCheck (suc n)) ∷ instr I.loopEnd ∷ []) in

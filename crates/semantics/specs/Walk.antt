@@ -88,9 +88,9 @@ loads e a w = perhaps e (note a w)
 abbrev pub guarded : Action → (Counts → Counts) → Walking → Walking
 guarded a up u w = draw (note a w) out (λ w. u (count up w)) normal
 
--- 01, Walk: "a conditional then takes its other branch"
-abbrev pub branch : Walking → Walking → Walking
-branch u v w = draw (note E.eJumpIfFalsy w) out u v
+-- 01, Walk: "a conditional then takes its other conditional"
+abbrev pub conditional : Walking → Walking → Walking
+conditional u v w = draw (note E.eJumpIfFalsy w) out u v
 
 -- the first child of a `??` with its handler open; 01, Walk: "and that `??` visits its second child", from the counts before
 unfoldable pub otherwise : Counts → Walking → Completion → Completion
@@ -136,8 +136,8 @@ nexts a c body (suc n) w = draw (note a (set-counts c w)) out (λ w. round false
 abbrev pub begins : Action → Bool → (Counts → ℕ → Walking) → Walking
 begins a k inner w = draw (note a w) out (λ w. inner (E.opens k (w .counts)) (length (w .outcomes)) (count (E.opens k) w)) normal
 
-abbrev pub looped : Walking → Walking
-looped body = begins E.eLoopBegin true (λ c. rounds c body)
+abbrev pub countedLoop : Walking → Walking
+countedLoop body = begins E.eLoopBegin true (λ c. rounds c body)
 
 abbrev pub eached : Action → Walking → Walking
 eached a body = begins E.eEachBegin false (λ c. nexts a c body)
@@ -180,31 +180,31 @@ statements o (a ∷ xs) e = do
   a .statement e
   statements o xs e
 
-unfoldable pub junction : Action → Action → Walkings → List Walkings → Scope → Walking
-junction step last a [] e = do
+unfoldable pub logic : Action → Action → Walkings → List Walkings → Scope → Walking
+logic step last a [] e = do
   a .expr e
   logs last
-junction step last a (b ∷ xs) e = do
+logic step last a (b ∷ xs) e = do
   a .expr e
-  guarded step E.same (junction step last b xs e)
+  guarded step E.same (logic step last b xs e)
 
-unfoldable pub addition : Post → Walkings → List Walkings → Scope → Walking
-addition p a [] e = do
+unfoldable pub terms : Post → Walkings → List Walkings → Scope → Walking
+terms p a [] e = do
   a .expr e
   takes 1 (E.eAddLast p)
-addition p a (b ∷ xs) e = do
+terms p a (b ∷ xs) e = do
   a .expr e
   logs E.eAddAcc
-  addition p b xs e
+  terms p b xs e
 
-unfoldable pub hosted : ℕ → Action → Walkings → List Walkings → Scope → Walking
-hosted k h a [] e = do
+unfoldable pub hostMath : ℕ → Action → Walkings → List Walkings → Scope → Walking
+hostMath k h a [] e = do
   a .expr e
   takes k h
-hosted k h a (b ∷ xs) e = do
+hostMath k h a (b ∷ xs) e = do
   a .expr e
   pushes
-  hosted k h b xs e
+  hostMath k h b xs e
 
 -- 01, Walk: "a store its root's kind, its root's hash unless Other, and its path"
 unfoldable pub rootShown : Payload → StoreRoot
@@ -269,18 +269,18 @@ module _ (S : Settings) where
         b .expr e
         takes 1 (E.eEq o (shown p))
   walkPlain (R.logic j) p v ts xs e = some xs pass λ a ys.
-      junction (cond j (E.eAndStep (shown p)) (E.eOrStep (shown p))) (cond j (E.eAndLast (shown p)) (E.eOrLast (shown p))) a ys e
+      logic (cond j (E.eAndStep (shown p)) (E.eOrStep (shown p))) (cond j (E.eAndLast (shown p)) (E.eOrLast (shown p))) a ys e
   walkPlain R.coalesce p v ts xs e = two xs pass λ a b. do
     coalesce (a .expr (in-handler e)) (b .expr e)
     posted p
   walkPlain R.conditional p v ts xs e = some xs pass λ a ys. some ys pass λ b zs. do
     a .expr e
-    branch (b .expr e) (one zs (logs (E.eConst 0)) λ c. c .expr e)
+    conditional (b .expr e) (one zs (logs (E.eConst 0)) λ c. c .expr e)
     posted p
   walkPlain R.statements p v ts xs e = statements (p .offset) xs e
   walkPlain R.loop p v ts xs e = two xs pass λ a b. do
     a .expr e
-    looped (b .expr (in-loop e))
+    countedLoop (b .expr (in-loop e))
     logs (E.eConst (fold p 0))
   walkPlain R.forEach p v ts xs e = three xs pass λ a b c. variable ts λ x. do
     b .expr e
@@ -302,7 +302,7 @@ module _ (S : Settings) where
       λ b zs. do
         a .expr e
         pushes
-        addition (shown p) b zs e
+        terms (shown p) b zs e
   walkPlain R.mul p v ts xs e = two xs pass λ a b. do
     a .expr e
     pushes
@@ -314,18 +314,18 @@ module _ (S : Settings) where
       a .expr e
       takes 1 (E.eDiv (shown p))
   walkPlain (R.hostMath u) p v ts xs e = asMath v pass λ f. some xs pass λ a ys.
-      cond (leb (length xs) 255) (hosted (length ys) (E.eHostMath f (length xs) (shown p)) a ys e) pass
+      cond (leb (length xs) 255) (hostMath (length ys) (E.eHostMath f (length xs) (shown p)) a ys e) pass
   walkPlain R.generic p v ts xs e = logs (E.eConst (fold p (constOf v)))
   walkPlain R.refused p v ts xs e = pass
 
   -- a member read: its base, then itself
-  unfoldable pub chained : Post → Payload → List Walkings → Scope → Walking
-  chained p v xs e = one xs pass λ a. do
+  unfoldable pub memberRead : Post → Payload → List Walkings → Scope → Walking
+  memberRead p v xs e = one xs pass λ a. do
     a .base e
     asName Kind.MEMBER v pass (λ n. loads e (E.eMember (n .hash) (shown p)))
 
-  unfoldable pub pointed : Post → List Walkings → Scope → Walking
-  pointed p xs e = two xs pass λ a b. do
+  unfoldable pub pointer : Post → List Walkings → Scope → Walking
+  pointer p xs e = two xs pass λ a b. do
     a .expr e
     guarded (E.ePointerEnter (shown p)) E.same do
       b .expr e
@@ -345,9 +345,9 @@ module _ (S : Settings) where
     statement = returning p xs;
     base = λ e. logs (E.eConst (fold p (constOf v)));
   }
-  walkRule R.member p v ts xs = alike (chained p v xs)
+  walkRule R.member p v ts xs = alike (memberRead p v xs)
   walkRule R.entity p v ts xs = alike (loaded v (shown p))
-  walkRule R.pointer p v ts xs = alike (pointed p xs)
+  walkRule R.pointer p v ts xs = alike (pointer p xs)
   walkRule (R.plain r) p v ts xs = alike (walkPlain r p v ts xs)
 
   unfoldable mutual
