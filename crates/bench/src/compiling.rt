@@ -4,7 +4,7 @@ use crate::say;
 use answers::refusals;
 use codegen::Answer;
 ghost use mathlib.Core.Path.{_≡_};
-ghost use Rattle.bench.specs.Answers.{numberOf};
+ghost use Rattle.semantics.specs.Link.{refusalOf};
 
 const STDOUT: i32 = 1;
 
@@ -12,7 +12,7 @@ const STDERR: i32 = 2;
 
 // The program image of the tree image `tree`, or why it is refused.
 pub fn compile(tree: &[u8]) -> Done
-    ensures { λ r. ⌜ r .number ≡ numberOf (now (tree .entry)) ⌝ }
+    ensures { λ r. ⌜ r .number ≡ refusalOf (now (tree .entry)) ⌝ }
 {
     let mut out = crate::output();
     let a = crate::answer(tree, &mut out);

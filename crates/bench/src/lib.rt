@@ -2,9 +2,14 @@
 pub mod compiling;
 pub mod listing;
 
+use ast::header;
 use codegen::Answer;
+use workspace::layout;
 ghost use mathlib.Core.Path.{_≡_};
+ghost use Prim.Native.Nat.{_+_};
 ghost use lib.ListN.{length};
+ghost use Rattle.workspace.specs.Layout.{WORDS};
+ghost use Rattle.ast.specs.Header.{LONGEST};
 ghost use Rattle.semantics.specs.Room.{IMAGE-ROOM};
 ghost use Rattle.codegen.specs.Build.{shown};
 ghost use Rattle.bench.specs.Answers.{answerIn, outputAfter};
@@ -12,13 +17,11 @@ ghost use Rattle.bench.specs.Answers.{answerIn, outputAfter};
 const STDERR: i32 = 2;
 
 // One byte more than any tree image has: longer input is refused by question 2.
-const INPUT: usize = 6145;
+const INPUT: usize = header::LONGEST + 1;
 
-// The words that a workspace must have.
-const WORDS: usize = 16384;
+const WORDS: usize = layout::WORDS;
 
-// Room for the program image of every tree image: `ImageRoom` in crates/semantics/specs/Room.antt is proved, so question 9 is never answered by no.
-// The longest image that was found has 56,827 bytes.
+// Room for the program image of every tree image, IMAGE-ROOM in crates/semantics/specs/Room.antt. The longest image that was found has 56,827 bytes.
 const ROOM: usize = 98304;
 
 // What a program did: the number of its answer; and whether standard output took all that it wrote, of which nothing is known beforehand.
@@ -28,7 +31,7 @@ pub struct Done {
 }
 
 pub fn input() -> [u8; INPUT]
-    ensures { λ r. ⌜ 6145 ≡ length r ⌝ }
+    ensures { λ r. ⌜ LONGEST + 1 ≡ length r ⌝ }
 {
     [0; INPUT]
 }
@@ -40,7 +43,7 @@ pub fn output() -> [u8; ROOM]
 }
 
 fn workspace() -> [u32; WORDS]
-    ensures { λ r. ⌜ 16384 ≡ length r ⌝ }
+    ensures { λ r. ⌜ WORDS ≡ length r ⌝ }
 {
     [0; WORDS]
 }

@@ -2,7 +2,7 @@
 use crate::Done;
 use codegen::Answer;
 ghost use mathlib.Core.Path.{_≡_};
-ghost use Rattle.bench.specs.Answers.{numberOf};
+ghost use Rattle.semantics.specs.Link.{refusalOf};
 
 const STDOUT: i32 = 1;
 
@@ -14,7 +14,7 @@ const CLOSING: usize = 9;
 
 // The listing of the program of the tree image `tree`, or its refusal. It stops where standard output takes no more.
 pub fn list(tree: &[u8]) -> Done
-    ensures { λ r. ⌜ r .number ≡ numberOf (now (tree .entry)) ⌝ }
+    ensures { λ r. ⌜ r .number ≡ refusalOf (now (tree .entry)) ⌝ }
 {
     let mut out = crate::output();
     let a = crate::answer(tree, &mut out);

@@ -1,4 +1,8 @@
+use mathlib.Core.Path.{_≡_}
+use native.Mathlib.Omega.{arith}
 use borrow.Author.Needs.{needs}
+use Rattle.semantics.specs.Link.{refusalOf}
+use Rattle.codegen.proofs.Outcome.{all-bytes}
 use Rattle.bench.proofs.Asked.{numbered}
 use Rattle.bench.proofs.compiling.compile.Statement.{statement}
 use Rattle.bench.proofs.compiling.compile.Tie as tie
@@ -30,15 +34,19 @@ enum-known-a-2 c = search needs
 refused-requires : tie.Need-refused-requires
 refused-requires c κs = search needs
 
+-- after `number_of`, on both arms
+number-is : (c : tie.After-number-of) → c .number-of .result ≡ refusalOf (c .before .before .before .before .before .before .args .tree .now)
+number-is c =
+    let tree = c .before .before .before .before .before .before .args .tree .now in
+    let known = c .before .before .before .before .before .shared-slice-known .given in
+    numbered tree (all-bytes tree (λ i l. omega (arith, known i))) _ _ _
+    (c .number-of .ensures) (c .before .before .answer .ensures .0) (c .before .before .before .before .output .ensures)
+
 returns : tie.Need-returns
-returns c =
-    numbered _ _ _ _ (c .before .before .before .before .before .number-of .ensures) (c .before .before .before .before .before .before .before .answer .ensures .0)
-    (c .before .before .before .before .before .before .before .before .before .output .ensures)
+returns c = number-is (c .before .before .before .before .before)
 
 returns-2 : tie.Need-returns-2
-returns-2 c =
-    numbered _ _ _ _ (c .before .before .before .before .number-of .ensures) (c .before .before .before .before .before .before .answer .ensures .0)
-    (c .before .before .before .before .before .before .before .before .output .ensures)
+returns-2 c = number-is (c .before .before .before .before)
 
 pub compile-spec : {M : Type 1} → statement M
 compile-spec =
