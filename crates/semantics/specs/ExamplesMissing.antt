@@ -170,7 +170,7 @@ E13 =
     ∷ trial (false ∷ false ∷ []) byEnd 2
     (entry (E.eCall 0 0 1 identity) 0 0 1 ∷ argument 0 ∷ entry (E.eLoadVar hash-a identity) 0 0 1 ∷ entry (E.eThis identity) 0 0 0 ∷ []) ∷ [])
 
--- E14: ?? inside an argument inside ??
+-- E14: a ?? inside an argument, which is inside a ?? of the caller
 -- NullCoalescing(QueryFunction#0.0(NullCoalescing(EntityVariable=Entity:a, EntityVariable=Entity:b)), EntityVariable=Entity:c)
 abbrev pub E14 : Example
 E14 =
