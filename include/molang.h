@@ -1,7 +1,7 @@
 /* molang.h: the proved Molang code generator as one C function. Link target/staticlib/libcodegen.a (made by `rt staticlib codegen`). x86-64, C99 or C++.
  *
  * molang_build turns a tree image into a program image. It keeps nothing between calls, takes no memory of its own but the stack, calls nothing but memset,
- * and may run in several threads at once, each with its own workspace and output. Give it 512 KiB of stack: 257,824 bytes are the most that was seen, 23,960 with
+ * and may run in several threads at once, each with its own workspace and output. Give it 256 KiB of stack: 212,992 bytes are the most that was seen, 23,960 with
  * typical trees.
  *
  * The thread that calls it must round floats to nearest and keep subnormals, as a program does from its start (MXCSR: rounding control 0, FTZ and DAZ
@@ -31,7 +31,7 @@ enum molang_refusal {
     MOLANG_SMALL_WORKSPACE = 1,    /* the workspace has fewer than 16,384 words */
     MOLANG_NO_TREE_IMAGE = 2,      /* not a tree image, which has 5 to 6,144 bytes, begins with the byte 1 and gives its true length */
     MOLANG_DAMAGED = 3,            /* a setting, an operator code, a payload kind or a node's length is wrong, or something is left over */
-    MOLANG_TOO_DEEP = 4,           /* a node stands deeper than level 64 */
+    MOLANG_TOO_DEEP = 4,           /* a node stands deeper than level 31 */
     MOLANG_USES_ARRAYS = 5,        /* the expression uses arrays */
     MOLANG_USES_RESOURCES = 6,     /* the expression uses resources */
     MOLANG_FAILED = 7,             /* an operator has the wrong operands or payload, or has no bytecode */
@@ -75,7 +75,7 @@ static inline const char *molang_reason(enum molang_refusal refusal)
     case MOLANG_SMALL_WORKSPACE: return "the workspace has fewer than 16,384 words";
     case MOLANG_NO_TREE_IMAGE: return "not a tree image, which has 5 to 6,144 bytes, begins with the byte 1 and gives its true length";
     case MOLANG_DAMAGED: return "a setting, an operator code, a payload kind or a node's length is wrong, or something is left over";
-    case MOLANG_TOO_DEEP: return "a node stands deeper than level 64";
+    case MOLANG_TOO_DEEP: return "a node stands deeper than level 31";
     case MOLANG_USES_ARRAYS: return "the expression uses arrays";
     case MOLANG_USES_RESOURCES: return "the expression uses resources";
     case MOLANG_FAILED: return "an operator has the wrong operands or payload, or has no bytecode";

@@ -6,6 +6,8 @@ LESS, AND, COALESCE, SEMICOLON, LOOP, FOR_EACH, BREAK = 18, 24, 26, 28, 29, 30, 
 ASSIGNMENT, POINTER, NEGATE, ADD, MUL, DIV, HOST, VOLATILE = 33, 34, 37, 39, 40, 41, 42, 43
 CODES = [*range(1, 52), *range(64, 124)]
 KINDS = range(13)
+# The levels that an accepted tree may have.
+LEVELS = 31
 
 
 def payload(kind, text=b"x"):

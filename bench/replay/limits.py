@@ -5,11 +5,13 @@ Each is (words, tree, refusal, what the program image must have); see coverage.p
 from images import *
 
 THIS_NODE = node(THIS)
+# A code that is none, and the levels of the deepest chain that 6,144 bytes hold.
+UNKNOWN, MOST_LEVELS = 52, 383
 
 
-def chain(levels, data=b"\0", op=NEGATE):
+def chain(levels, data=b"\0", op=NEGATE, last=THIS_NODE):
     """A tree of so many levels."""
-    t = THIS_NODE
+    t = last
     for _ in range(levels - 1):
         t = node(op, data, [t])
     return t
@@ -18,6 +20,11 @@ def chain(levels, data=b"\0", op=NEGATE):
 def unread(levels):
     """So many levels where none but the root is lowered."""
     return node(THIS, b"\0", [chain(levels - 1)])
+
+
+def target(levels):
+    """So many levels, most of them below an assignment's target, where nothing is lowered."""
+    return node(ASSIGNMENT, b"\0", [node(TEMP, name(5, 9, b"t"), [chain(levels - 2)]), THIS_NODE])
 
 
 def right(n):
@@ -70,12 +77,15 @@ def counted(field, limit, tree):
 
 
 def limits():
-    for n in around(64):
-        refusal = 0 if n <= 64 else 4
+    for n in around(LEVELS):
+        refusal = 0 if n <= LEVELS else 4
         yield f"levels {n}", image(chain(n)), refusal, {}
         yield f"levels {n} of members", image(chain(n, payload(6), MEMBER)), refusal, {}
         yield f"levels {n} of queries", image(chain(n, payload(11), QUERY)), refusal, {}
         yield f"levels {n}, unread", image(unread(n)), refusal, {}
+        yield f"levels {n} of a target", image(target(n)), refusal, {}
+    for n in LEVELS, LEVELS + 1, MOST_LEVELS:
+        yield f"damage at level {n}", image(chain(n, last=node(UNKNOWN))), 3, {}
     for n in around(255):
         for op in HOST, VOLATILE:
             yield f"host arguments {n}, operator {op}", image(host(n, op)), 0 if n <= 255 else 7, {"sub": n} if n <= 255 else {}

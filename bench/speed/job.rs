@@ -110,7 +110,7 @@ pub fn parse(image: &[u8]) -> Result<Parsed, u32> {
     }
     let mut r = Reader { bytes: image, at: 5, deepest: 0 };
     let parsed = r.root().ok_or(3u32)?;
-    if r.deepest > 64 { Err(4) } else { Ok(parsed) }
+    if r.deepest > tree::LEVELS { Err(4) } else { Ok(parsed) }
 }
 
 fn built(tree: &Parsed) -> Result<super::program::Program, u32> {

@@ -205,7 +205,7 @@ fn all() {
         report(&class(&format!("nodes {n}")).checked(&mut b), &mut b);
     }
     head("one cost as it grows");
-    for (w, steps) in [("names", [61, 122, 244]), ("posts", [95, 191, 382]), ("breaks", [66, 133, 266])] {
+    for (w, steps) in [("names", [61, 122, 244]), ("posts", [95, 191, 382]), ("breaks", [81, 162, 324])] {
         for k in steps {
             report(&Class::new(&format!("{w} {k}"), &[trees::worst(w, k)]).checked(&mut b), &mut b);
         }

@@ -25,7 +25,8 @@ const DIV: u8 = 41;
 const HOST: u8 = 42;
 const ONE: u32 = 0x3F80_0000;
 
-/// The longest tree image that question 2 lets pass.
+/// The most levels and the longest tree image that are let pass.
+pub const LEVELS: usize = molang_speed::LEVELS;
 pub const LONGEST: usize = 6144;
 
 pub struct Rng(pub u64);
@@ -222,21 +223,21 @@ pub fn worst(name_of: &str, n: usize) -> Node {
         "strings" => Node::new(SEMICOLON, (0..n).map(|_| Node::new(STRING, vec![]).pay(2, &number(3))).collect()),
         "loops" => (0..n).fold(this(), |body, _| Node::new(LOOP, vec![float(2.0), body])),
         "breaks" => breaks(n),
-        "path" => (0..n).fold(this(), |base, i| Node::new(MEMBER, vec![base]).pay(6, &name(&format!("{:0>60}", i)))),
+        "path" => (0..n).fold(this(), |base, i| Node::new(MEMBER, vec![base]).pay(6, &name(&format!("{:0>179}", i)))),
         "handlers" => (0..n).fold(this(), |first, _| Node::new(COALESCE, vec![first, this()])),
         "arguments" => (0..n).fold(this(), |inner, _| Node::new(QUERY, vec![this(), inner]).pay(11, &[0, 1, 0])),
         _ => panic!("no worst case {name_of}"),
     }
 }
 
-/// 58 loops inside one another, in the innermost a list of `n` Breaks and Continues: each loop looks for its own.
+/// Loops inside one another, in the innermost a list of `n` Breaks and Continues: each loop looks for its own.
 fn breaks(n: usize) -> Node {
     let list = (0..n).map(|i| Node::new(if i % 2 == 0 { BREAK } else { CONTINUE }, vec![])).collect();
-    (0..58).fold(Node::new(SEMICOLON, list), |body, _| Node::new(LOOP, vec![this(), body]))
+    (0..LEVELS - 2).fold(Node::new(SEMICOLON, list), |body, _| Node::new(LOOP, vec![this(), body]))
 }
 
-/// The worst cases, each as large as an image and 64 levels allow.
+/// The worst cases, each as large as an image and its levels allow.
 pub const WORST: [(&str, usize); 12] = [
     ("names", 244), ("temps", 244), ("members", 148), ("consts", 306), ("hashes", 254), ("posts", 382), ("strings", 254),
-    ("loops", 63), ("breaks", 266), ("path", 63), ("handlers", 63), ("arguments", 63),
+    ("loops", LEVELS - 1), ("breaks", 324), ("path", LEVELS - 1), ("handlers", LEVELS - 1), ("arguments", LEVELS - 1),
 ];

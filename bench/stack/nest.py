@@ -1,6 +1,12 @@
-"""Framed tree images that nest each operator in each of its places as deep as 64 levels and 6,144 bytes allow; then and/or with many operands at the bottom."""
+"""Framed tree images that nest each operator in each of its places as deep as an accepted image allows, with a leaf at the bottom and with an
+`and` whose operands fill the image; then the deepest chain that is read, and refused."""
+import os
 import struct
 import sys
+
+sys.dont_write_bytecode = True
+sys.path.insert(0, os.path.join(os.path.dirname(os.path.abspath(__file__)), "..", "replay"))
+from images import AND, LEVELS, NEGATE
 
 NAME = b"\0" * 9
 PAYLOADS = [b"\0", b"\6" + NAME, b"\7" + NAME, b"\x0b\0\1\0", b"\x0c\0\1"]
@@ -31,11 +37,10 @@ def trees():
         for count in (1, 2, 3):
             for place in range(count):
                 for payload in PAYLOADS:
-                    yield nested(THIS, op, count, place, payload, 63)
-    for op in (24, 25):
-        for many in (100, 200, 250, 382):
-            yield nested(node(op, [THIS] * many), op, 2, 1, b"\0", 61)
-            yield nested(node(op, [THIS] * many), op, 1, 0, b"\0", 61)
+                    yield nested(THIS, op, count, place, payload, LEVELS - 1)
+                    around = len(nested(node(AND, []), op, count, place, payload, LEVELS - 2)) + 7
+                    yield nested(node(AND, [THIS] * ((6144 - around) // 16)), op, count, place, payload, LEVELS - 2)
+    yield nested(THIS, NEGATE, 1, 0, b"\0", 382)
 
 
 for tree in trees():

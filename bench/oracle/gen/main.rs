@@ -56,9 +56,10 @@ impl G {
             r,
         }
     }
-    /// Around 64 levels.
+    /// Around the most levels.
     fn levels(&mut self) -> Gn {
-        let l = self.r.weighted(&[(64, 40), (65, 12), (63, 10), (66, 5), (50, 10), (31, 5), (32, 5), (100, 3), (300, 2), (58, 8)]);
+        let near = [(LEVELS, 40), (LEVELS + 1, 12), (LEVELS - 1, 10), (LEVELS + 2, 5), (LEVELS - 3, 8)];
+        let l = self.r.weighted(&[&near[..], &[(24, 10), (15, 5), (16, 5), (64, 3), (300, 2)]].concat());
         self.names = 3;
         self.long = 0;
         let all = self.r.pct(75) && l < 100;
@@ -78,7 +79,7 @@ impl G {
         match style {
             0 => self.sized((1, 8), (1, 8)),
             1 => self.sized((6, 40), (3, 20)),
-            2 => self.sized((40, 220), (4, 40)),
+            2 => self.sized((40, 220), (4, LEVELS - 4)),
             3 => self.levels(),
             4 => { self.long = 0; self.limits() }
             5 => self.temps(),
@@ -100,7 +101,7 @@ impl G {
         let mut n = 150;
         while root.size() + 5 + SETTINGS > 6144 && !self.r.pct(3) {
             self.long = 0;
-            let d = self.r.range(4, 30);
+            let d = self.r.range(4, LEVELS - 4);
             root = self.expr(n, d);
             n = n * 3 / 4 + 1;
         }

@@ -53,7 +53,7 @@ impl G {
             let j = self.r.below(i + 1);
             todo.swap(i, j);
         }
-        todo.truncate(60);
+        todo.truncate(LEVELS - 1);
         let mut node = self.small_leaf();
         for t in todo {
             let l = self.small_leaf();
@@ -145,7 +145,7 @@ impl G {
         let mut left = self.r.pick(&[900usize, 2000, 4000, 6000]);
         let mut h = self.r.below(1000) as u64;
         while left > 400 {
-            let links = self.r.range(1, 61).min((left - 300) / 26 + 1);
+            let links = self.r.range(1, LEVELS - 2).min((left - 300) / 26 + 1);
             let mut node = Gn::new(THIS);
             for i in 1..=links {
                 let n = if i == links { self.r.pick(&[255usize, 254, 200, 0]) } else { self.r.below(2) };

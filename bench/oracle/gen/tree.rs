@@ -37,6 +37,9 @@ pub const RETURN: u8 = 44;
 /// The float 1.0.
 pub const ONE: u32 = 0x3F80_0000;
 
+/// The levels that an accepted tree may have.
+pub const LEVELS: usize = 31;
+
 /// Setting bytes of an image: arrays and divisor.
 pub const SETTINGS: usize = 2;
 

@@ -124,6 +124,9 @@ fn nodes(r: &mut Reader<'_>, end: usize, utf8: &mut bool) -> Option<(TNode, usiz
     }
 }
 
+/// The levels that an accepted tree may have.
+pub const LEVELS: usize = 31;
+
 /// Questions 2, 3 and 4: a tree, or the number of the first that is answered by no.
 pub fn decode(image: &[u8]) -> Result<Tree, u32> {
     if image.len() < 5 || image.len() > 6144 || image[0] != 1 {
@@ -143,7 +146,7 @@ pub fn decode(image: &[u8]) -> Result<Tree, u32> {
     let divisor = setting()?;
     let mut utf8 = true;
     let (root, deepest) = nodes(&mut r, end, &mut utf8).ok_or(3u32)?;
-    if deepest > 64 {
+    if deepest > LEVELS {
         return Err(4);
     }
     Ok(Tree { arrays, divisor, root, utf8 })

@@ -23,7 +23,7 @@ NO-TREE-IMAGE = 2
 abbrev pub DAMAGED : ℕ
 DAMAGED = 3
 
--- 4. "Is every node at level 64 or less (the root is level 1)?"
+-- 4. "Is every node at level .. or less (the root is level 1)?"; 02, C-12: "level 31 passes, level 32 gives 4"
 abbrev pub TOO-DEEP : ℕ
 TOO-DEEP = 4
 
@@ -54,7 +54,7 @@ texts =
     ∷ (SMALL-WORKSPACE, "the workspace has fewer than 16,384 words")
     ∷ (NO-TREE-IMAGE, "not a tree image, which has 5 to 6,144 bytes, begins with the byte 1 and gives its true length")
     ∷ (DAMAGED, "a setting, an operator code, a payload kind or a node's length is wrong, or something is left over")
-    ∷ (TOO-DEEP, "a node stands deeper than level 64")
+    ∷ (TOO-DEEP, "a node stands deeper than level 31")
     ∷ (USES-ARRAYS, "the expression uses arrays")
     ∷ (USES-RESOURCES, "the expression uses resources")
     ∷ (FAILED, "an operator has the wrong operands or payload, or has no bytecode")

@@ -37,7 +37,7 @@ pub fn put_text(number: u8, out: &mut [u8]) -> usize
             b"a setting, an operator code, a payload kind or a node's length is wrong, or something is left over",
             out,
         ),
-        TOO_DEEP => put(b"a node stands deeper than level 64", out),
+        TOO_DEEP => put(b"a node stands deeper than level 31", out),
         USES_ARRAYS => put(b"the expression uses arrays", out),
         USES_RESOURCES => put(b"the expression uses resources", out),
         FAILED => put(

@@ -6,3 +6,4 @@ pub mod ReadBack
 pub mod Rewritten
 pub mod Accepted
 pub mod Pieces
+pub mod Levels

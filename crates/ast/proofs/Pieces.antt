@@ -1,5 +1,5 @@
 -- Pieces of images, computed. Assumes nothing.
-use Prim.Native.Nat.{ℕ, zero, suc}
+use Prim.Native.Nat.{ℕ}
 use mathlib.Core.Path.{_≡_, refl}
 use mathlib.Core.List.{List, [], _∷_}
 use Rattle.wire.specs.Bytes.{be16, be32, be64, be}
@@ -11,7 +11,7 @@ use Rattle.ast.specs.Questions.{fits, row, filled, rooted, whole, formed
 use Rattle.ast.specs.Encode.{image}
 
 -- opens every definition that reading uses
-unfoldable reading : Unit {0}
+unfoldable pub reading : Unit {0}
 unfolding be16 be32 be64 be known nameAt payloadAt sizeOf fits row filled rooted whole formed shallow questions trees treeAt parse
 reading = tt
 
@@ -40,25 +40,6 @@ m1-accepted = refl
 m1-parsed : parse m1 ≡ mul
 unfolding reading m1 mul float
 m1-parsed = refl
-
--- a chain of nodes, so many below the first, whose last node has the code op
-chain : ℕ → ℕ → Tree
-chain op zero = node op identity pNone nil
-chain op (suc n) = node 1 identity pNone (cons (chain op n) nil)
-
--- 01, Bench pieces: "level 64 passes, 65 gives 4"
-level-64 : questions (image 0 0 (chain 1 63)) ≡ 0
-unfolding reading chain
-level-64 = refl
-
-level-65 : questions (image 0 0 (chain 1 64)) ≡ 4
-unfolding reading chain
-level-65 = refl
-
--- an unknown code is found at level 66 too, and comes before the height
-damage-66 : questions (image 0 0 (chain 52 65)) ≡ 3
-unfolding reading chain
-damage-66 = refl
 
 -- a byte too many, counted in the length
 left-over : questions (1 ∷ 0 ∷ 0 ∷ 0 ∷ 19 ∷ 0 ∷ 0 ∷ 0 ∷ 0 ∷ 0 ∷ 12 ∷ 1 ∷ 0 ∷ 0 ∷ 0 ∷ 0 ∷ 0 ∷ 0 ∷ 0 ∷ 0 ∷ 0 ∷ 0 ∷ 0 ∷ 0 ∷ []) ≡ 3

@@ -42,9 +42,9 @@ SHORTEST = 5
 abbrev pub LONGEST : ℕ
 LONGEST = 6144
 
--- 01, Nine questions, 4: "level 64 or less (the root is level 1)"
+-- 02, C-12: "That becomes the limit in question 4: level 31 passes, level 32 gives 4"; 01: "the root is level 1"
 abbrev pub LEVELS : ℕ
-LEVELS = 64
+LEVELS = 31
 
 -- a node takes 16 bytes or more, so the longest image holds no more levels
 abbrev pub ALL-LEVELS : ℕ

@@ -17,7 +17,7 @@ pub const SHORTEST: usize = 5;
 pub const LONGEST: usize = 6144;
 
 // The levels of an accepted tree.
-pub const LEVELS: u16 = 64;
+pub const LEVELS: u16 = 31;
 
 // A node takes 16 bytes or more, so the longest image holds no more levels.
 pub const ALL_LEVELS: u16 = 383;
