@@ -43,7 +43,7 @@ whole s =
 unfoldable pub formed : List ℕ → Bool
 formed s = leb (arraysOf s) 1 && (leb (divisorOf s) 1 && rooted ALL-LEVELS s)
 
--- 01, Nine questions, 4: "Is every node at level .. or less (the root is level 1)?"; 02, C-12: "level 31 passes"
+-- 01, Nine questions, 4: "Is every node at level .. or less (the root is level 1)?"; Header has the limit
 unfoldable pub shallow : List ℕ → Bool
 shallow s = rooted LEVELS s
 

@@ -7,7 +7,7 @@ use Rattle.numeric.specs.Post.{Post, identity}
 use Rattle.ast.specs.Tree.{Name}
 use Rattle.program.specs.Instruction.{Instruction, halt}
 use Rattle.program.specs.Program.{MemberEntry, StoreRoot, rootVar, rootTemp, rootOther, MemberStore, QueryCall, Program}
-use Rattle.program.specs.Image.{wordOf}
+use Rattle.program.specs.Image.{wordOf, VAR-ROOT, TEMP-ROOT, OTHER-ROOT}
 use Rattle.program.specs.Fits.{rootIndex}
 use Rattle.program.specs.Targets.{shiftOf}
 use Rattle.workspace.specs.Layout.{OPEN, FINISHED, CONSTS, POSTS, HASHES, NAMES, TEMPS, MEMBERS, STORES, PATHS, CALLS, ARGUMENTS}
@@ -58,11 +58,11 @@ pub record MemberIs (tree ws : List ℕ) (k : ℕ) (m : MemberEntry) : Type 0 wh
   pub own-text : TextIs tree (getD ws (k + 4) 0) own
   pub last-text : TextIs tree (getD ws (k + 5) 0) last
 
--- 01, The program image: "root 0 Var, 1 Temp, 2 Other"
+-- the number of a store's root
 unfoldable pub rootKind : StoreRoot → ℕ
-rootKind (rootVar n) = 0
-rootKind (rootTemp n) = 1
-rootKind rootOther = 2
+rootKind (rootVar n) = VAR-ROOT
+rootKind (rootTemp n) = TEMP-ROOT
+rootKind rootOther = OTHER-ROOT
 
 pub record StoreIs (ws : List ℕ) (k : ℕ) (s : MemberStore) : Type 0 where
   pub kind : getD ws k 0 ≡ rootKind (s .root)

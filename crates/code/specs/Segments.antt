@@ -1,4 +1,4 @@
--- Instructions in the workspace's words: appended, given a target, breaksResolved by their loop, moved to the finished code. Definitions only.
+-- Instructions in the workspace's words: appended, given a target, resolved by their loop, moved to the finished code. Definitions only.
 use mathlib.Core.Path.{_≡_}
 use mathlib.Core.Bool.{Bool, true, cond}
 use mathlib.Core.List.{List, [], _∷_}

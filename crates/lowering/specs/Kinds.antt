@@ -1,5 +1,6 @@
 -- A kind of index is a tuple struct around its number: an entry of a kind as one of a plain index, a store's root as two numbers. Definitions only.
 use Prim.Native.Nat.{ℕ}
+use Rattle.program.specs.Image.{VAR-ROOT, TEMP-ROOT, OTHER-ROOT}
 use Rattle.lowering.specs.declared.assign.StoreRoot.{StoreRoot}
 use Rattle.lowering.specs.declared.assign.StoreRoot.the-variants.{Var, Temp, Other}
 use Rattle.lowering.specs.declared.interning.Entry.{Entry}
@@ -38,9 +39,9 @@ ofPost e = record { state = e .state; index = e .index .0 }
 
 -- 01, The program image: "root 0 Var, 1 Temp, 2 Other; index 2, 0 for Other"
 unfoldable pub rootKind : StoreRoot → ℕ
-rootKind (Var n) = 0
-rootKind (Temp n) = 1
-rootKind Other = 2
+rootKind (Var n) = VAR-ROOT
+rootKind (Temp n) = TEMP-ROOT
+rootKind Other = OTHER-ROOT
 
 unfoldable pub rootIndex : StoreRoot → ℕ
 rootIndex (Var n) = n .0

@@ -11,6 +11,7 @@ use Rattle.ast.specs.Rules.{ruleOf}
 use Rattle.ast.specs.Node.{opAt, countAt, firstAt}
 use Rattle.program.specs.Kinds as Flag
 use Rattle.program.specs.Opcodes as O
+use Rattle.program.specs.Image.{VAR-ROOT, TEMP-ROOT, OTHER-ROOT}
 use Rattle.code.specs.Segments.{BREAK, CONTINUE}
 use Rattle.payload.specs.declared.NameRef.{NameRef}
 use Rattle.payload.specs.declared.Payload.{Payload}
@@ -149,10 +150,10 @@ module _ (t : List ℕ) where
   storeAs kind index n p count q h = going (storeAdded kind index (h .0 .paths) count (pathHashes n p h)) λ k. instr O.STORE-MEMBER 0 k q
 
   unfoldable pub rootTemp : ℕ → ℕ → ℕ → ℕ → ℕ → Step
-  rootTemp root n p count q h = asName Kind.TEMP (payload root) (storeAs 2 0 n p count q h) (λ m. withTemp m (λ k. storeAs 1 k n p count q) h)
+  rootTemp root n p count q h = asName Kind.TEMP (payload root) (storeAs OTHER-ROOT 0 n p count q h) (λ m. withTemp m (λ k. storeAs TEMP-ROOT k n p count q) h)
 
   unfoldable pub rootVar : ℕ → ℕ → ℕ → ℕ → ℕ → Step
-  rootVar root n p count q h = asName Kind.ENTITY (payload root) (rootTemp root n p count q h) (λ m. withName m (λ k. storeAs 0 k n p count q) h)
+  rootVar root n p count q h = asName Kind.ENTITY (payload root) (rootTemp root n p count q h) (λ m. withName m (λ k. storeAs VAR-ROOT k n p count q) h)
 
   unfoldable pub storeMember : ℕ → ℕ → ℕ → Step
   storeMember n p q =

@@ -154,7 +154,7 @@ abbrev pub withCall : ℕ → ℕ → ℕ → (ℕ → Step) → Step
 withCall index impl count f h = going (callBegun index impl count h) f
 
 -- the segment of the argument at that place is finished: its End, its start, and the caller's segment is open again
--- a Break or Continue that no loop has breaksResolved leads to the start
+-- a Break or Continue that no loop has resolved leads to the start
 unfoldable pub argumentClosed : ℕ → Bool → ℕ → Step
 argumentClosed base waiting slot h =
     let g = instr O.END 0 0 0 h in

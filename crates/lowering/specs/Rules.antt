@@ -376,7 +376,7 @@ start = record {
   refusal = 0;
 }
 
--- the root, and End; a Break or Continue that no loop has breaksResolved leads to the start
+-- the root, and End; a Break or Continue that no loop has resolved leads to the start
 unfoldable pub lowered : List ℕ → List ℕ → Held
 lowered t words = (do
   expr t LEVELS ROOT false

@@ -156,10 +156,19 @@ getMember = do
   got (record { hash = hash; text = text; report = report })
 
 -- 01, The program image: "stores (root 0 Var, 1 Temp, 2 Other; index 2, 0 for Other; path count 2; hashes)"
+abbrev pub VAR-ROOT : ℕ
+VAR-ROOT = 0
+
+abbrev pub TEMP-ROOT : ℕ
+TEMP-ROOT = 1
+
+abbrev pub OTHER-ROOT : ℕ
+OTHER-ROOT = 2
+
 unfoldable pub putRoot : StoreRoot → List ℕ → List ℕ
-putRoot (rootVar n) r = be 1 0 (be 2 n r)
-putRoot (rootTemp n) r = be 1 1 (be 2 n r)
-putRoot rootOther r = be 1 2 (be 2 0 r)
+putRoot (rootVar n) r = be 1 VAR-ROOT (be 2 n r)
+putRoot (rootTemp n) r = be 1 TEMP-ROOT (be 2 n r)
+putRoot rootOther r = be 1 OTHER-ROOT (be 2 0 r)
 
 unfoldable pub rootOf : ℕ → ℕ → StoreRoot
 rootOf zero n = rootVar n

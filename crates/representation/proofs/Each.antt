@@ -1,4 +1,4 @@
--- ForEach: EachBegin, EachNext, the body with its Breaks and Continues breaksResolved, the Jump back, LoopEnd. Assumes nothing.
+-- ForEach: EachBegin, EachNext, the body with its Breaks and Continues resolved, the Jump back, LoopEnd. Assumes nothing.
 use mathlib.Core.Path.{_≡_, refl, sym, ap, subst, _∙_}
 use mathlib.Core.Bool.{Bool, true, false}
 use mathlib.Core.List.{List, [], _∷_, _++_, map, append-assoc}

@@ -1,4 +1,4 @@
--- Loops: LoopBegin or EachBegin, the body with its Breaks and Continues breaksResolved, the way back, LoopEnd. Assumes nothing.
+-- Loops: LoopBegin or EachBegin, the body with its Breaks and Continues resolved, the way back, LoopEnd. Assumes nothing.
 use mathlib.Core.Path.{_≡_, refl, sym, ap, subst, _∙_}
 use mathlib.Core.Bool.{Bool, true, false}
 use mathlib.Core.List.{List, [], _∷_, _++_, map, append-assoc}

@@ -156,7 +156,7 @@ relocate-back b (I.eachNext (I.eachNextVar c) t) = let h = shift b t in omega ar
 relocate-back b (I.eachNext (I.eachNextTemp c) t) = let h = shift b t in omega arith
 relocate-back b (I.call c d) = omega arith
 
--- what an item settles to is its breaksResolved instruction, relocated
+-- what an item settles to is its resolved instruction, relocated
 abbrev pub instructionOf : Item → Instruction
 instructionOf (instr i) = i
 instructionOf toCleanup = I.jump 0

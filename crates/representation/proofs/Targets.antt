@@ -1,4 +1,4 @@
--- Instructions whose target comes later: set when it is known, Breaks and Continues breaksResolved by their loop. Assumes nothing.
+-- Instructions whose target comes later: set when it is known, Breaks and Continues resolved by their loop. Assumes nothing.
 use mathlib.Core.Path.{_≡_, refl, sym, ap, subst, _∙_}
 use mathlib.Core.Bool.{Bool, true, false, cond}
 use mathlib.Core.List.{List, [], _∷_, _++_, map, append-assoc, append-nil}
@@ -144,7 +144,7 @@ module _ {tree : List ℕ} {c : Counts} where
         tables = open-changed A f a (omega arith) ob (record { count = omega arith; rows = rows }) t;
       })
 
--- ---- Breaks and Continues breaksResolved
+-- ---- Breaks and Continues resolved
 
 stored : (ws : List ℕ) (at p t u : ℕ) → p ≡ at * 2 → p + 2 ≤ length ws → ((getD (sets ws (at * 2) (t ∷ u ∷ [])) p 0 ≡ t) × (getD (sets ws (at * 2) (t ∷ u ∷ [])) (p + 1) 0 % 4294967296 ≡ u % 4294967296)) × Apart ws (sets ws (at * 2) (t ∷ u ∷ [])) p (p + 2)
 stored ws at p t u e l =

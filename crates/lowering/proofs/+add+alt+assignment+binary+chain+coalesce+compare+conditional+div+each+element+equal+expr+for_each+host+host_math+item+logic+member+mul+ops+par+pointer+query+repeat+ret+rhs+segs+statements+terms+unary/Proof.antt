@@ -1,5 +1,6 @@
 -- The proof of the cycle of calls. Assumes nothing.
 mod Shared
+mod Claims
 mod add
 mod alt
 mod assignment

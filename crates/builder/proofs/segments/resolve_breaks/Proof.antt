@@ -13,7 +13,7 @@ use Rattle.builder.proofs.segments.resolve_breaks.Lts as lts
 use Rattle.builder.proofs.segments.absolute.Reads as absolute-reads
 use Rattle.code.proofs.segment.resolve_breaks.Reads as resolve-breaks-reads
 
--- nothing is breaksResolved where nothing is left
+-- nothing is resolved where nothing is left
 aim-none : (words : List ℕ) (at n check cleanup : ℕ) → n ≡ 0 → words ≡ G.rangeResolved words at n check cleanup
 unfolding G.rangeResolved
 aim-none words at n check cleanup e = ap (λ (j : ℕ). G.rangeResolved words at j check cleanup) (sym e)

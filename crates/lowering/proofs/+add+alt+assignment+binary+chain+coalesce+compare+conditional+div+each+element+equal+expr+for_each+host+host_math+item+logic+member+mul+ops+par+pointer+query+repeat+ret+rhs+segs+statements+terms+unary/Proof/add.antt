@@ -4,7 +4,8 @@ use native.Mathlib.Omega.{arith}
 use mathlib.Core.Path.{_∙_}
 use Rattle.lowering.proofs.add.Reads as add
 use Rattle.lowering.proofs.+add+alt+assignment+binary+chain+coalesce+compare+conditional+div+each+element+equal+expr+for_each+host+host_math+item+logic+member+mul+ops+par+pointer+query+repeat+ret+rhs+segs+statements+terms+unary.Lts-add as add-lts
-use Rattle.lowering.proofs.+add+alt+assignment+binary+chain+coalesce+compare+conditional+div+each+element+equal+expr+for_each+host+host_math+item+logic+member+mul+ops+par+pointer+query+repeat+ret+rhs+segs+statements+terms+unary.Proof.Shared.{add-at, add-claims}
+use Rattle.lowering.proofs.+add+alt+assignment+binary+chain+coalesce+compare+conditional+div+each+element+equal+expr+for_each+host+host_math+item+logic+member+mul+ops+par+pointer+query+repeat+ret+rhs+segs+statements+terms+unary.Proof.Shared.{add-at}
+use Rattle.lowering.proofs.+add+alt+assignment+binary+chain+coalesce+compare+conditional+div+each+element+equal+expr+for_each+host+host_math+item+logic+member+mul+ops+par+pointer+query+repeat+ret+rhs+segs+statements+terms+unary.Proof.Claims.{add-claims}
 use Rattle.lowering.proofs.Handlers.{add-none, add-one, add-all}
 
 module _ (t : ℕ) where

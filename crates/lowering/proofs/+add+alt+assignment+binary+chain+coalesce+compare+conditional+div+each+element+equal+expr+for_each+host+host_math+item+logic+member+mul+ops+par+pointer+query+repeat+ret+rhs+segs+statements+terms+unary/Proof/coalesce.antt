@@ -4,7 +4,8 @@ use native.Mathlib.Omega.{arith}
 use mathlib.Core.Path.{_∙_}
 use Rattle.lowering.proofs.coalesce.Reads as coalesce
 use Rattle.lowering.proofs.+add+alt+assignment+binary+chain+coalesce+compare+conditional+div+each+element+equal+expr+for_each+host+host_math+item+logic+member+mul+ops+par+pointer+query+repeat+ret+rhs+segs+statements+terms+unary.Lts-coalesce as coalesce-lts
-use Rattle.lowering.proofs.+add+alt+assignment+binary+chain+coalesce+compare+conditional+div+each+element+equal+expr+for_each+host+host_math+item+logic+member+mul+ops+par+pointer+query+repeat+ret+rhs+segs+statements+terms+unary.Proof.Shared.{coalesce-at, coalesce-claims}
+use Rattle.lowering.proofs.+add+alt+assignment+binary+chain+coalesce+compare+conditional+div+each+element+equal+expr+for_each+host+host_math+item+logic+member+mul+ops+par+pointer+query+repeat+ret+rhs+segs+statements+terms+unary.Proof.Shared.{coalesce-at}
+use Rattle.lowering.proofs.+add+alt+assignment+binary+chain+coalesce+compare+conditional+div+each+element+equal+expr+for_each+host+host_math+item+logic+member+mul+ops+par+pointer+query+repeat+ret+rhs+segs+statements+terms+unary.Proof.Claims.{coalesce-claims}
 use Rattle.lowering.proofs.Handlers.{coalesce-few, coalesce-all}
 
 module _ (t : ℕ) where

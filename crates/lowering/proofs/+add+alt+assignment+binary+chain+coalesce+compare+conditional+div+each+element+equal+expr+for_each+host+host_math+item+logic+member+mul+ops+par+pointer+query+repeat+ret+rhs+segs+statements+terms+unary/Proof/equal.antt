@@ -4,7 +4,8 @@ use native.Mathlib.Omega.{arith}
 use mathlib.Core.Path.{_∙_}
 use Rattle.lowering.proofs.equal.Reads as equal
 use Rattle.lowering.proofs.+add+alt+assignment+binary+chain+coalesce+compare+conditional+div+each+element+equal+expr+for_each+host+host_math+item+logic+member+mul+ops+par+pointer+query+repeat+ret+rhs+segs+statements+terms+unary.Lts-equal as equal-lts
-use Rattle.lowering.proofs.+add+alt+assignment+binary+chain+coalesce+compare+conditional+div+each+element+equal+expr+for_each+host+host_math+item+logic+member+mul+ops+par+pointer+query+repeat+ret+rhs+segs+statements+terms+unary.Proof.Shared.{equal-at, equal-claims}
+use Rattle.lowering.proofs.+add+alt+assignment+binary+chain+coalesce+compare+conditional+div+each+element+equal+expr+for_each+host+host_math+item+logic+member+mul+ops+par+pointer+query+repeat+ret+rhs+segs+statements+terms+unary.Proof.Shared.{equal-at}
+use Rattle.lowering.proofs.+add+alt+assignment+binary+chain+coalesce+compare+conditional+div+each+element+equal+expr+for_each+host+host_math+item+logic+member+mul+ops+par+pointer+query+repeat+ret+rhs+segs+statements+terms+unary.Proof.Claims.{equal-claims}
 use Rattle.lowering.proofs.Handlers.{equal-none, equal-one, equal-all}
 
 module _ (t : ℕ) where

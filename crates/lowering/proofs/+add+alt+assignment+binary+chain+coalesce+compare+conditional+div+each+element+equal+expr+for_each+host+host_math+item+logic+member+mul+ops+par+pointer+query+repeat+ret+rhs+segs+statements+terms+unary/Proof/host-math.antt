@@ -3,7 +3,8 @@ use Prim.Native.Nat.{ℕ}
 use native.Mathlib.Omega.{arith}
 use Rattle.lowering.proofs.host_math.Reads as host-math
 use Rattle.lowering.proofs.+add+alt+assignment+binary+chain+coalesce+compare+conditional+div+each+element+equal+expr+for_each+host+host_math+item+logic+member+mul+ops+par+pointer+query+repeat+ret+rhs+segs+statements+terms+unary.Lts-host_math as host-math-lts
-use Rattle.lowering.proofs.+add+alt+assignment+binary+chain+coalesce+compare+conditional+div+each+element+equal+expr+for_each+host+host_math+item+logic+member+mul+ops+par+pointer+query+repeat+ret+rhs+segs+statements+terms+unary.Proof.Shared.{host-math-at, host-math-claims}
+use Rattle.lowering.proofs.+add+alt+assignment+binary+chain+coalesce+compare+conditional+div+each+element+equal+expr+for_each+host+host_math+item+logic+member+mul+ops+par+pointer+query+repeat+ret+rhs+segs+statements+terms+unary.Proof.Shared.{host-math-at}
+use Rattle.lowering.proofs.+add+alt+assignment+binary+chain+coalesce+compare+conditional+div+each+element+equal+expr+for_each+host+host_math+item+logic+member+mul+ops+par+pointer+query+repeat+ret+rhs+segs+statements+terms+unary.Proof.Claims.{host-math-claims}
 use Rattle.lowering.proofs.Handlers.{math-other, math-none, math-many, math-all}
 
 module _ (t : ℕ) where

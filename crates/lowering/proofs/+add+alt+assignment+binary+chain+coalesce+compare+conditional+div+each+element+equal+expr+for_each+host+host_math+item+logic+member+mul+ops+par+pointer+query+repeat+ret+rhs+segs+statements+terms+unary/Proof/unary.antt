@@ -4,7 +4,8 @@ use native.Mathlib.Omega.{arith}
 use mathlib.Core.Path.{_∙_}
 use Rattle.lowering.proofs.unary.Reads as unary
 use Rattle.lowering.proofs.+add+alt+assignment+binary+chain+coalesce+compare+conditional+div+each+element+equal+expr+for_each+host+host_math+item+logic+member+mul+ops+par+pointer+query+repeat+ret+rhs+segs+statements+terms+unary.Lts-unary as unary-lts
-use Rattle.lowering.proofs.+add+alt+assignment+binary+chain+coalesce+compare+conditional+div+each+element+equal+expr+for_each+host+host_math+item+logic+member+mul+ops+par+pointer+query+repeat+ret+rhs+segs+statements+terms+unary.Proof.Shared.{unary-at, unary-claims}
+use Rattle.lowering.proofs.+add+alt+assignment+binary+chain+coalesce+compare+conditional+div+each+element+equal+expr+for_each+host+host_math+item+logic+member+mul+ops+par+pointer+query+repeat+ret+rhs+segs+statements+terms+unary.Proof.Shared.{unary-at}
+use Rattle.lowering.proofs.+add+alt+assignment+binary+chain+coalesce+compare+conditional+div+each+element+equal+expr+for_each+host+host_math+item+logic+member+mul+ops+par+pointer+query+repeat+ret+rhs+segs+statements+terms+unary.Proof.Claims.{unary-claims}
 use Rattle.lowering.proofs.Handlers.{unary-none, unary-all}
 
 module _ (t : ℕ) where
