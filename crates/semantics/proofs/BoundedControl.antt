@@ -212,7 +212,7 @@ segment-in m c d v h (missing w) q = q
 segment-in m c d v h (broke w) q = q
 segment-in m c d v h (again w) q = q
 segment-in m c d v h (returned w) q = h (set-counts c w) refl q
-segment-in m c d v h (halted w) q = q
+segment-in m c d v h (halted w) q = h (set-counts c w) refl q
 segment-in m c d v h (out w) q = q
 
 pub segment-less : (c : Counts) (v : Walking) → Less v → (x : Completion) {k : ℕ} → left x ≤ k → left (segment c v x) ≤ k
@@ -222,7 +222,7 @@ segment-less c v b (missing w) h = h
 segment-less c v b (broke w) h = h
 segment-less c v b (again w) h = h
 segment-less c v b (returned w) h = let i = b (set-counts c w) in omega arith
-segment-less c v b (halted w) h = h
+segment-less c v b (halted w) h = let i = b (set-counts c w) in omega arith
 segment-less c v b (out w) h = h
 
 pub args-less : (j : ℕ) {ls : List Lowerings} {ms : List Walkings} → Zip Whole ls ms → (v : Walking) → Less v → Less (K.arguments j ms v)

@@ -33,7 +33,7 @@ found x = record {
 abbrev given : Example → Findings
 given x = record { card = x .card; walks = map (λ t. t .shows) (x .trials); machines = map (λ t. some (t .shows)) (x .trials) }
 
--- E1 to E49: the lowering, the walk and the step machine, each as the example gives it
+-- E1 to E49 and H1 to H15: the lowering, the walk and the step machine, each as the example gives it
 worked-examples : map found examples ≡ map given examples
 unfolding computing
 worked-examples = refl

@@ -69,7 +69,7 @@ module _ (P : Program) (E : ℕ) (r : Result) where
   segment-after e κ b n k m j i c v at-end h (broke w) q = tt
   segment-after e κ b n k m j i c v at-end h (again w) q = tt
   segment-after e κ b n k m j i c v at-end h (returned w) q = h (set-counts c w) q
-  segment-after e κ b n k m j i c v at-end h (halted w) q = q
+  segment-after e κ b n k m j i c v at-end h (halted w) q = h (set-counts c w) q
   segment-after e κ b n k m j i c v at-end h (out w) q = q
 
   pub args-ends : (k j : ℕ) {ls : List Lowerings} {ms : List Walkings} → Zip Tree-s ls ms → (c : Counts) (s : State) → Z.Ext P E r (L.arguments ls c s .state) → Holds (startAt P k) j (map (E ⊕_) (L.arguments ls c s .offsets))

@@ -75,7 +75,7 @@ module _ (P : Program) (E : ℕ) (r : Result) where
   After e κ n (broke w) = If (e .loop) ((es : List Open) → cut es ≡ cut (κ .control) → Ends (go (machine (κ .base ⊕ κ .cleanup-at) w es (κ .frames))))
   After e κ n (again w) = If (e .loop) ((es : List Open) → cut es ≡ cut (κ .control) → Ends (go (machine (κ .base ⊕ κ .check-at) w es (κ .frames))))
   After e κ n (returned w) = Ends (leave P byReturn w (κ .frames))
-  After e κ n (halted w) = Ends (stop (result byHalt w))
+  After e κ n (halted w) = Ends (leave P byHalt w (κ .frames))
   After e κ n (out w) = Ends (stop (result byOut w))
 
   abbrev pub Has : Place → ℕ → List Item → Type 0

@@ -82,7 +82,7 @@ E20 =
     (trial (true ∷ []) byEnd 1
     (entry (E.eThis identity) 0 0 0 ∷ entry E.eLoopBegin 0 0 0 ∷ entry E.eLoopEnd 1 1 0 ∷ entry (E.eConst 0) 0 0 0 ∷ []) ∷ [])
 
--- E21, Loop(This, QueryFunction#0.0(Break)): Break in an argument: Halt, with the caller's loop in the count
+-- E21, Loop(This, QueryFunction#0.0(Break)): Break in an argument: Halt, with the caller's loop in the count; then the call draws
 abbrev pub E21 : Example
 E21 =
     example
@@ -91,7 +91,7 @@ E21 =
     (be 65 0x010000008a00000009_0400000000000000_2800000000050000_2700000000000000_2900000000020000_2a00000000000000_0100000000000000_3000000000000000
     (be 16 0x2f00000000000000_3000000000000000
     (be 62 0x0000000100000000_000000013f80000000000000_00000000_00000000_00000000_00000000_00000000_00000001000000000100000007_000100010000014000 [])))
-    (trial (true ∷ []) byHalt 1
+    (trial (true ∷ []) byOut 1
     (entry (E.eThis identity) 0 0 0 ∷ entry E.eLoopBegin 0 0 0 ∷ entry (E.eCall 0 0 1 identity) 1 1 0 ∷ argument 0 ∷ entry E.eHalt 1 1 0 ∷ []) ∷ [])
 
 -- E22, Semicolon(Loop(This, This), ForEach(TempVariable=Temp:t, This, This)): LoopBegin no: no LoopEnd; EachBegin no: the Const at the exit is logged

@@ -14,6 +14,7 @@ pub mod Room
 pub mod Example
 pub mod ExamplesMissing
 pub mod ExamplesControl
+pub mod ExamplesHalt
 pub mod ExamplesRules
 pub mod ExamplesEvents
 pub mod Examples

@@ -148,7 +148,8 @@ enter P k zero j n w es fs = perhaps n w es fs
 enter P k (suc m) j n w es fs = go (machine (startAt P k j) (note-argument j w) []
     (record { back = n; callee = k; todo = m; number = suc j; counts = w .counts; control = es } ∷ fs))
 
--- 01, Walk: "Return or End ends its segment and restores the counts there."
+-- 01, Walk: "Return or End ends its segment and restores the counts there.";
+-- 02, C-15: "Halt inside a query argument now ends that argument alone, .. and the call goes on. In the main code it still ends the run."
 unfoldable pub leave : Program → E.Ending → Run → List Frame → Next
 leave P e w [] = stop (result e w)
 leave P e w (f ∷ fs) = enter P (f .callee) (f .todo) (f .number) (f .back) (set-counts (f .counts) w) (f .control) fs
@@ -172,7 +173,7 @@ execute P I.loopEnd n w es fs = close (suc n) w fs (cut es)
 execute P (I.call k p) n w es fs = enter P k (length (callAt P k .starts)) 0 (suc n)
     (note (E.eCall (callAt P k .index) (callAt P k .impl) (length (callAt P k .starts)) (postAt P p)) w) es fs
 execute P (I.return p) n w es fs = leave P E.byReturn (note (E.eReturn (postAt P p)) w) fs
-execute P I.halt n w es fs = stop (result E.byHalt (note E.eHalt w))
+execute P I.halt n w es fs = leave P E.byHalt (note E.eHalt w) fs
 execute P I.end n w es fs = leave P E.byEnd w fs
 
 unfoldable pub step : Program → Machine → Next

@@ -148,14 +148,15 @@ pub record Walkings : Type 0 where
   pub statement : Scope → Walking
   pub base : Scope → Walking
 
--- 01, Walk: "Return or End ends its segment and restores the counts there. Halt ends the whole run."
+-- 01, Walk: "Return or End ends its segment and restores the counts there.";
+-- 02, C-15: "Halt inside a query argument now ends that argument alone, with the counts put back, and the call goes on."
 unfoldable pub segment : Counts → Walking → Completion → Completion
 segment c rest (normal w) = rest (set-counts c w)
 segment c rest (missing w) = missing w
 segment c rest (broke w) = broke w
 segment c rest (again w) = again w
 segment c rest (returned w) = rest (set-counts c w)
-segment c rest (halted w) = halted w
+segment c rest (halted w) = rest (set-counts c w)
 segment c rest (out w) = out w
 
 -- 01, Walk: "Call logs, runs its arguments in order from the counts open there, each first logging its number from 0 .., and only then draws"
@@ -358,6 +359,7 @@ module _ (S : Settings) where
     walks nil = []
     walks (cons t ts) = walk t ∷ walks ts
 
+-- 02, C-15, of Halt: "In the main code it still ends the run."
 -- missing, Break and Continue do not come out of a tree that no loop and no `??` is around
 unfoldable pub finish : Completion → Result
 finish (normal w) = result E.byEnd w
