@@ -1,6 +1,7 @@
 // Big-endian numbers written into bytes. Past the end nothing is written.
 ghost use mathlib.Core.Path.{_≡_};
 ghost use mathlib.Core.List.{[], _∷_};
+ghost use Prim.Native.Nat.{_/_, _%_, _^_, _<_};
 ghost use lib.Seq.{sets};
 ghost use Rattle.wire.specs.Bytes.{be};
 
@@ -31,23 +32,25 @@ fn put_four(out: &mut [u8], at: usize, a: u8, b: u8, c: u8, d: u8)
     }
 }
 
+// The byte of `n` at a shift. Nothing is divided.
+fn byte(n: u32, shift: u32) -> u8
+    requires { ⌜ shift < 32 ⌝ }
+    ensures { λ r. ⌜ r ≡ n / 2 ^ shift % 256 ⌝ }
+{
+    ((n >> shift) & 255) as u8
+}
+
 // Two bytes from `at` on, the high one first.
 pub(crate) fn put_u16(out: &mut [u8], at: usize, n: u16)
     ensures { λ _. ⌜ now (out .exit) ≡ sets (now (out .entry)) at (be 2 n []) ⌝ }
 {
-    put_two(out, at, (n / 256) as u8, (n % 256) as u8);
+    let w = n as u32;
+    put_two(out, at, byte(w, 8), byte(w, 0));
 }
 
 // Four bytes from `at` on, the highest first.
 pub(crate) fn put_u32(out: &mut [u8], at: usize, n: u32)
     ensures { λ _. ⌜ now (out .exit) ≡ sets (now (out .entry)) at (be 4 n []) ⌝ }
 {
-    put_four(
-        out,
-        at,
-        (n / 16777216) as u8,
-        (n / 65536 % 256) as u8,
-        (n / 256 % 256) as u8,
-        (n % 256) as u8,
-    );
+    put_four(out, at, byte(n, 24), byte(n, 16), byte(n, 8), byte(n, 0));
 }

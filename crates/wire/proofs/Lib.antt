@@ -1,3 +1,4 @@
 pub mod ReadBack
 pub mod Numbers
 pub mod Stores
+pub mod Shifts

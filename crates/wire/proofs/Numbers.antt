@@ -1,4 +1,4 @@
--- The bytes of a number: how many, each one a byte, and the bytes written out by division. Assumes nothing.
+-- The bytes of a number: how many, each one a byte, one alone, and eight by halves. Assumes nothing.
 use mathlib.Core.Path.{_≡_, refl, ap}
 use mathlib.Core.List.{List, [], _∷_, _++_}
 use Prim.Native.Nat.{ℕ, zero, suc, _+_, _*_, _^_, _/_, _%_, _<_}
@@ -27,18 +27,6 @@ be-bytes (suc k) v r h rest = (div-lt-iff-lt-mul (pow-pos k) .1 (let i : v < 256
 pub be-one : (v : ℕ) → be 1 v [] ≡ v ∷ []
 unfolding be
 be-one v = ap (λ a. a ∷ []) (omega arith)
-
-pub be-two : (v : ℕ) → be 2 v [] ≡ v / 256 ∷ v % 256 ∷ []
-unfolding be
-be-two v = ap (λ a. v / 256 ∷ a ∷ []) (omega arith)
-
-pub be-four : (v : ℕ) → be 4 v [] ≡ v / 16777216 ∷ v / 65536 % 256 ∷ v / 256 % 256 ∷ v % 256 ∷ []
-unfolding be
-be-four v =
-    let b : v % 16777216 / 65536 ≡ v / 65536 % 256 = omega arith in
-    let c : v % 16777216 % 65536 / 256 ≡ v / 256 % 256 = omega arith in
-    let d : v % 16777216 % 65536 % 256 / 1 ≡ v % 256 = omega arith in
-    rw (b, c, d)
 
 -- eight bytes are two times four
 pub be-eight : (v : ℕ) → be 8 v [] ≡ be 4 (v / 4294967296) [] ++ be 4 (v % 4294967296) []
