@@ -1,4 +1,4 @@
-/* molang.h: the proved Molang code generator as one C function. Link crates/molang/out/libmolang.a (made by `rt lib` in crates/molang). x86-64, C99 or C++.
+/* molang.h: the proved Molang code generator as one C function. Link crates/codegen_c/out/libcodegen.a (made by `./build library`). x86-64, C99 or C++.
  *
  * molang_build turns a tree image into a program image. It keeps nothing between calls, takes no memory of its own but the stack, calls nothing but memset and
  * memmove, and may run in several threads at once, each with its own workspace and output. Give it 256 KiB of stack: 199,296 bytes are the most that was seen,
@@ -22,7 +22,7 @@ extern "C" {
 /* The longest tree image. Give one byte more where you read a file of unknown length: it is then refused, and not cut off. */
 #define MOLANG_TREE_MOST 6144
 
-/* Room for the program image of every tree image, so that refusal 9 does not occur: proved, IMAGE-ROOM in crates/semantics/specs/Room.antt. */
+/* Room for the program image of every tree image, so that refusal 9 does not occur: proved, IMAGE_ROOM in crates/semantics/specs/Room.antt. */
 #define MOLANG_IMAGE_ROOM 98304
 
 /* The nine questions in the order in which they are asked; the first that is answered by no is the refusal. */

@@ -1,4 +1,4 @@
-//! speed: the proved `molang_build` of libmolang.a and the genuine Rust `build`, timed in one process over the same trees.
+//! speed: the proved `molang_build` of libcodegen.a and the genuine Rust `build`, timed in one process over the same trees.
 //!
 //!   speed             every class: time per tree of each side, and the ratio ours / Rust over the batches
 //!   speed only CLASS  our side of one class for ever so many calls, for a profiler
@@ -13,7 +13,7 @@ use std::hint::black_box;
 use std::io::Write;
 use trees::{LONGEST, Rng, WORST};
 
-#[link(name = "molang", kind = "static")]
+#[link(name = "codegen", kind = "static")]
 unsafe extern "C" {
     fn molang_build(tree: *const u8, tree_len: usize, ws: *mut u32, ws_len: usize, out: *mut u8, out_len: usize) -> u64;
 }

@@ -3,7 +3,7 @@ use crate::count::{Counts, Wrong};
 use crate::fault::{self, Watched};
 use crate::pens::{GUARD, Pen};
 
-#[link(name = "molang", kind = "static")]
+#[link(name = "codegen", kind = "static")]
 unsafe extern "C" {
     fn molang_build(tree: *const u8, tree_len: usize, ws: *mut u32, words: usize, out: *mut u8, out_len: usize) -> u64;
 }

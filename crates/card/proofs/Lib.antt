@@ -5,3 +5,4 @@ pub mod Whole
 pub mod Starts
 pub mod Shown
 pub mod Bridge
+pub mod TwoParts

@@ -33,7 +33,7 @@ pub fn build(tree: &[u8], workspace: &mut [u32], out: &mut [u8]) -> Answer
     inside(tree, &mut workspace[..layout::WORDS], out)
 }
 
-// The same as one number: the refusal's number * 2^32 + the length. Crate molang exports it to C.
+// The same as one number: the refusal's number * 2^32 + the length. Crate codegen_c exports it to C.
 pub fn molang_build(tree: &[u8], workspace: &mut [u32], out: &mut [u8]) -> u64
     ensures { Packed tree.now workspace.old out.old workspace.new out.new result }
 {

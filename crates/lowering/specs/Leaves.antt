@@ -147,7 +147,8 @@ module _ (t : List ℕ) where
   store_as kind index n p count q h = going (store_added kind index h.0.paths count (path_hashes n p h)) λ k. instr O.STORE_MEMBER 0 k q
 
   unfoldable pub root_temp : ℕ → ℕ → ℕ → ℕ → ℕ → Step
-  root_temp root n p count q h = as_name Kind.TEMP (payload root) (store_as OTHER_ROOT 0 n p count q h) (λ m. with_temp m (λ k. store_as TEMP_ROOT k n p count q) h)
+  root_temp root n p count q h =
+      as_name Kind.TEMP (payload root) (store_as OTHER_ROOT 0 n p count q h) (λ m. with_temp m (λ k. store_as TEMP_ROOT k n p count q) h)
 
   unfoldable pub root_var : ℕ → ℕ → ℕ → ℕ → ℕ → Step
   root_var root n p count q h = as_name Kind.ENTITY (payload root) (root_temp root n p count q h) (λ m. with_name m (λ k. store_as VAR_ROOT k n p count q) h)

@@ -16,7 +16,10 @@ answer_from (suc r) n room = record { number = suc r; length = 0 }
 
 -- 01, Nine questions, 1: "Has the workspace 16,384 words or more? No: 1."; by the tree image, the workspace's length and the output's
 unfoldable pub answer : List ℕ → ℕ → ℕ → Answer
-answer s words room = cond (leb WORDS words) (answer_from (refusal_of s) (length (program_image s)) room) (record { number = Refusal.SMALL_WORKSPACE; length = 0 })
+answer s words room =
+    cond (leb WORDS words)
+    (answer_from (refusal_of s) (length (program_image s)) room)
+    (record { number = Refusal.SMALL_WORKSPACE; length = 0 })
 
 -- 01, Nine questions: "output beyond it is unchanged"; a refusal changes no byte
 unfoldable pub written : ℕ → List ℕ → List ℕ → List ℕ

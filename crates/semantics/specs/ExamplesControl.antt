@@ -16,7 +16,8 @@ E15 =
     (be 24 0x2a00000000000000_0100000000000000_3000000000000000
     (be 53 0x0000000100000000_000000013f80000000000000_00000000_00000000_00000000_00000000_00000000_00000000_000100010001004101 [])))
     (trial (true ∷ false ∷ []) by_end 2
-    (entry (E.e_this identity) 0 0 0 ∷ entry E.e_loop_begin 0 0 0 ∷ entry E.e_loop_check 1 1 0 ∷ entry E.e_loop_end 1 1 0 ∷ entry (E.e_const 0) 0 0 0 ∷ []) ∷ [])
+    (entry (E.e_this identity) 0 0 0 ∷ entry E.e_loop_begin 0 0 0 ∷ entry E.e_loop_check 1 1 0 ∷ entry E.e_loop_end 1 1 0
+    ∷ entry (E.e_const 0) 0 0 0 ∷ []) ∷ [])
 
 -- E16, Loop(This, NullCoalescing(Break, This)): Break out of ??'s first child: LoopEnd cuts the handler
 abbrev pub E16 : Example

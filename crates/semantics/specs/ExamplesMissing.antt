@@ -68,7 +68,8 @@ E6 =
     (trial (false ∷ []) by_end 1
     (entry (E.e_this identity) 0 0 0 ∷ entry (E.e_div_guard true) 0 0 0 ∷ [])
     ∷ trial (true ∷ true ∷ []) by_end 2
-    (entry (E.e_this identity) 0 0 0 ∷ entry (E.e_div_guard true) 0 0 0 ∷ entry (E.e_load_var hash_a identity) 1 0 0 ∷ entry (E.e_div identity) 1 0 0 ∷ []) ∷ [])
+    (entry (E.e_this identity) 0 0 0 ∷ entry (E.e_div_guard true) 0 0 0 ∷ entry (E.e_load_var hash_a identity) 1 0 0
+    ∷ entry (E.e_div identity) 1 0 0 ∷ []) ∷ [])
 
 -- E7, LogicalOr*2+1(This, This): OrStep: yes goes on to the next operand
 abbrev pub E7 : Example
