@@ -515,7 +515,8 @@ fn ops(
     ensures { ◌≡◌ {A = Held} (result, ws.new) (R.under tree.now levels (R.operands tree.now) step last q.0 m a looping (st, ws.old)) }
 {
     let s = expr(tree, a, ws, st, looping, levels, table);
-    if m == 0 {
+    let alone = m == 0;
+    if alone {
         return instr(ws, s, last, 0, 0, q.0);
     }
     let e = emit_jump(ws, s, step, 0, q.0);

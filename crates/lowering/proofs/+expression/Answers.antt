@@ -239,12 +239,12 @@ logic-returns-then-count-eq0 t c = logical_none _ _ _ _ _ _ _ _ _ c.count_at-cou
 pub logic-returns : goal.logic-returns
 logic-returns t c = logical_all _ _ _ _ _ _ _ _ _ c.count_at-count.ensures c.if-count-eq0.false c.post-e.ensures c.first_at.ensures.0 c.ops.ensures
 
-pub ops-returns-then-m-eq0 : goal.ops-returns-then-m-eq0
-ops-returns-then-m-eq0 t c = junction_end _ _ _ _ _ _ _ _ _ _ _ c.expr-s.ensures c.if-m-eq0.true c.instr.ensures
+pub ops-returns-then-alone : goal.ops-returns-then-alone
+ops-returns-then-alone t c = junction_end _ _ _ _ _ _ _ _ _ _ _ c.expr-s.ensures c.if-alone.true c.instr.ensures
 
 pub ops-returns : goal.ops-returns
 ops-returns t c =
-    junction_on _ _ _ _ _ _ _ _ _ _ _ c.expr-s.ensures c.if-m-eq0.false c.emit_jump-e.ensures c.next_at.ensures.0 c.ops-u.ensures
+    junction_on _ _ _ _ _ _ _ _ _ _ _ c.expr-s.ensures c.if-alone.false c.emit_jump-e.ensures c.next_at.ensures.0 c.ops-u.ensures
     c.place_target.ensures
 
 -- ---- arithmetic
