@@ -5,7 +5,7 @@
 
 A definition, a lemma, a field, a constructor and a constant has `_` between its words; a dash stays behind the name of a type alone. A lemma that
 would get the name of a definition gets `_lem`. Names of the library, of Rattle's own goals and of functions in src/ are left. Where two names
-would fall together in a file, nothing is written.
+would fall together in a file of definitions or proofs, nothing is written; a definition may have the name of the Rust function that it describes.
 """
 import pathlib
 import re
