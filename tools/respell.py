@@ -83,13 +83,14 @@ class Repository:
                     self.fields.add(name)
                 if is_word:
                     self.words.add(name)
-        self.map = {n: respelled(n) for n in own(names) | BOUND}
+            names |= BOUND.intersection(TOKEN.findall(path.read_text()))
+        self.map = {n: respelled(n) for n in own(names)}
         taken = {self.map.get(w, w) for w in self.words}
         for name in names - self.words:
             new = self.map.get(name, name)
             if new != name and new in taken:
                 self.map[name] = new + "_lem"
-        self.map = {n: m for n, m in (self.map | INSTEAD).items() if n != m and n in names | BOUND}
+        self.map = {n: m for n, m in (self.map | INSTEAD).items() if n != m and n in names}
         # an operator's own text, where it stands between its arguments
         self.map |= {n.strip("◌"): m.strip("◌") for n, m in self.map.items() if "◌" in n}
 
