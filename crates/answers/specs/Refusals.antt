@@ -1,5 +1,7 @@
 -- The refusals: number, name and text of each, one row a refusal. 01, Nine questions: "A refusal returns its number". Definitions only.
-use Rattle.std.specs.Prelude.{cond, List, [], ◌∷◌, ◌++◌, ℕ, length, drop, eqb, leb}
+use Rattle.std.specs.Prelude.{◌≡◌, ◌<◌, ◌⊎◌, cond, List, [], ◌∷◌, ◌++◌, ℕ, length, drop, eqb, leb, Option, None, Some, Result, Ok, Err}
+use Rattle.answers.specs.declared.refusals.Refusal.{Refusal}
+use Rattle.answers.specs.declared.refusals.Refusal.TheVariants.{SmallWorkspace, NoTreeImage, Damaged, TooDeep, UsesArrays, UsesResources, Failed, WriteToOtherMob, SmallOutput}
 use Prim.Native.Char.{code}
 use Prim.Native.String.{String, [] as end, ◌∷◌ as ◌then◌}
 
@@ -43,6 +45,31 @@ WRITE_TO_OTHER_MOB = 8
 abbrev pub SMALL_OUTPUT : ℕ
 SMALL_OUTPUT = 9
 
+-- the number of each
+abbrev pub number_of : Refusal → ℕ
+number_of SmallWorkspace = SMALL_WORKSPACE
+number_of NoTreeImage = NO_TREE_IMAGE
+number_of Damaged = DAMAGED
+number_of TooDeep = TOO_DEEP
+number_of UsesArrays = USES_ARRAYS
+number_of UsesResources = USES_RESOURCES
+number_of Failed = FAILED
+number_of WriteToOtherMob = WRITE_TO_OTHER_MOB
+number_of SmallOutput = SMALL_OUTPUT
+
+-- a number that is no refusal's
+abbrev pub NoRefusal : ℕ → Type 0
+NoRefusal n = (n ≡ ACCEPTED) ⊎ (SMALL_OUTPUT < n)
+
+-- "A refusal returns its number", "Acceptance returns 0": the number of what may be a refusal, and of a result
+abbrev pub number_of_first : Option Refusal → ℕ
+number_of_first None = ACCEPTED
+number_of_first (Some r) = number_of r
+
+abbrev pub number_of_result : {A : Type 0} → Result A Refusal → ℕ
+number_of_result (Ok a) = ACCEPTED
+number_of_result (Err r) = number_of r
+
 -- what a program says of each, without a line end
 abbrev pub texts : List (ℕ × String)
 texts =
@@ -59,12 +86,12 @@ texts =
     ∷ []
 
 -- a text's bytes, all of them ASCII
-unfoldable pub bytes : String → List ℕ
+abbrev pub bytes : String → List ℕ
 bytes end = []
 bytes (c then s) = code c ∷ bytes s
 
 -- the text of a number among rows; none for any other
-unfoldable pub text_in : List (ℕ × String) → ℕ → List ℕ
+abbrev pub text_in : List (ℕ × String) → ℕ → List ℕ
 text_in [] n = []
 text_in (row ∷ rows) n = cond (eqb n row.0) (bytes row.1) (text_in rows n)
 
@@ -72,8 +99,8 @@ abbrev pub text_of : ℕ → List ℕ
 text_of n = text_in texts n
 
 -- a text at the start of an output that has room for it, and how many bytes that is
-unfoldable pub laid : List ℕ → List ℕ → List ℕ
+abbrev pub laid : List ℕ → List ℕ → List ℕ
 laid t s = cond (leb (length t) (length s)) (t ++ drop (length t) s) s
 
-unfoldable pub taken : List ℕ → List ℕ → ℕ
+abbrev pub taken : List ℕ → List ℕ → ℕ
 taken t s = cond (leb (length t) (length s)) (length t) 0

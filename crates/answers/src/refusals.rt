@@ -1,52 +1,99 @@
-// The refusals, each the number of its question, and the text of each.
-ghost use Rattle.std.specs.Prelude.{◌≡◌};
-ghost use Rattle.answers.specs.Refusals.{text_of, laid, taken};
+// The refusals, each its question's: the number of each, and its text.
+ghost use Rattle.std.specs.Prelude.{◌≡◌, MatchResult};
+ghost use Rattle.answers.specs.Refusals.{number_of, NoRefusal, bytes, text_of, laid, taken};
 
+use std::error::Error;
+use std::fmt;
+
+// The number of an answer that refuses nothing.
 pub const ACCEPTED: u8 = 0;
 
-pub const SMALL_WORKSPACE: u8 = 1;
+#[derive(Clone, Copy, Debug, PartialEq, Eq)]
+pub enum Refusal {
+    SmallWorkspace = 1,
+    NoTreeImage = 2,
+    Damaged = 3,
+    TooDeep = 4,
+    UsesArrays = 5,
+    UsesResources = 6,
+    Failed = 7,
+    WriteToOtherMob = 8,
+    SmallOutput = 9,
+}
 
-pub const NO_TREE_IMAGE: u8 = 2;
+impl Refusal {
+    // The number of the question.
+    pub fn number(self) -> u8
+        ensures { result ≡ number_of self }
+    {
+        self as u8
+    }
 
-pub const DAMAGED: u8 = 3;
+    // What is said of the refusal to people.
+    pub fn text(self) -> &'static str
+        ensures { result.now ≡ text_of (number_of self) }
+    {
+        match self {
+            Refusal::SmallWorkspace => "the workspace has fewer than 16,384 words",
+            Refusal::NoTreeImage => {
+                "not a tree image, which has 5 to 6,144 bytes, begins with the byte 1 and gives its true length"
+            }
+            Refusal::Damaged => {
+                "a setting, an operator code, a payload kind or a node's length is wrong, or something is left over"
+            }
+            Refusal::TooDeep => "a node stands deeper than level 31",
+            Refusal::UsesArrays => "the expression uses arrays",
+            Refusal::UsesResources => "the expression uses resources",
+            Refusal::Failed => "an operator has the wrong operands or payload, or has no bytecode",
+            Refusal::WriteToOtherMob => "an assignment writes to another mob",
+            Refusal::SmallOutput => "the program image is longer than the output",
+        }
+    }
+}
 
-pub const TOO_DEEP: u8 = 4;
+impl fmt::Display for Refusal {
+    fn fmt<W: fmt::Write>(&self, f: &mut fmt::Formatter<W>) -> fmt::Result {
+        f.write_str(self.text())
+    }
+}
 
-pub const USES_ARRAYS: u8 = 5;
+impl Error for Refusal {}
 
-pub const USES_RESOURCES: u8 = 6;
+// A number that is no refusal's.
+#[derive(Clone, Copy, Debug, PartialEq, Eq)]
+pub struct UnknownRefusal(pub u8);
 
-pub const FAILED: u8 = 7;
+impl TryFrom<u8> for Refusal {
+    type Error = UnknownRefusal;
 
-pub const WRITE_TO_OTHER_MOB: u8 = 8;
+    ghost try_from_gives = { λ number r. MatchResult r (λ why. number_of why ≡ number) (λ e. (e.0 ≡ number) × NoRefusal number) };
 
-pub const SMALL_OUTPUT: u8 = 9;
+    fn try_from(number: u8) -> Result<Self, UnknownRefusal> {
+        match number {
+            1 => Ok(Refusal::SmallWorkspace),
+            2 => Ok(Refusal::NoTreeImage),
+            3 => Ok(Refusal::Damaged),
+            4 => Ok(Refusal::TooDeep),
+            5 => Ok(Refusal::UsesArrays),
+            6 => Ok(Refusal::UsesResources),
+            7 => Ok(Refusal::Failed),
+            8 => Ok(Refusal::WriteToOtherMob),
+            9 => Ok(Refusal::SmallOutput),
+            _ => Err(UnknownRefusal(number)),
+        }
+    }
+}
 
-// The text of a refusal at the start of `out`, if it has the room; how many bytes that is. No other number has a text.
+// The text of a number at the start of `out`, if it has the room; how many bytes that is. A number that is no answer's has no text.
 pub fn put_text(number: u8, out: &mut [u8]) -> usize
     ensures { (out.new ≡ laid (text_of number) out.old) × (result ≡ taken (text_of number) out.old) }
 {
-    match number {
-        ACCEPTED => put(b"accepted", out),
-        SMALL_WORKSPACE => put(b"the workspace has fewer than 16,384 words", out),
-        NO_TREE_IMAGE => put(
-            b"not a tree image, which has 5 to 6,144 bytes, begins with the byte 1 and gives its true length",
-            out,
-        ),
-        DAMAGED => put(
-            b"a setting, an operator code, a payload kind or a node's length is wrong, or something is left over",
-            out,
-        ),
-        TOO_DEEP => put(b"a node stands deeper than level 31", out),
-        USES_ARRAYS => put(b"the expression uses arrays", out),
-        USES_RESOURCES => put(b"the expression uses resources", out),
-        FAILED => put(
-            b"an operator has the wrong operands or payload, or has no bytecode",
-            out,
-        ),
-        WRITE_TO_OTHER_MOB => put(b"an assignment writes to another mob", out),
-        SMALL_OUTPUT => put(b"the program image is longer than the output", out),
-        _ => put(b"", out),
+    if number == ACCEPTED {
+        return put(b"accepted", out);
+    }
+    match Refusal::try_from(number) {
+        Ok(why) => put(why.text().as_bytes(), out),
+        Err(_) => put(b"", out),
     }
 }
 
