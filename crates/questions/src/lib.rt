@@ -2,11 +2,12 @@
 #![tactic(auto)]
 
 ghost use Rattle.std.specs.Prelude.{◌≡◌};
+ghost use Rattle.answers.specs.Refusals.{number_of_result};
 ghost use Rattle.ast.specs.Node.{size_at};
 ghost use Rattle.ast.specs.Rules.{HasRules};
 ghost use Rattle.ast.specs.Questions.{fits, row, filled, whole, questions};
 
-use answers::refusals;
+use answers::refusals::Refusal;
 use ast::header;
 use ast::rules::RULES;
 
@@ -75,20 +76,20 @@ fn whole_at(s: &[u8]) -> bool
     false
 }
 
-// The number of the first of questions 2 to 4 that is answered by no, else 0.
-pub fn check_image(tree: &[u8]) -> u8
-    ensures { result ≡ questions tree.now }
+// The first of questions 2 to 4 that is answered by no.
+pub fn check_image(tree: &[u8]) -> Result<(), Refusal>
+    ensures { number_of_result result ≡ questions tree.now }
 {
     if whole_at(tree) {
         if 1 < wire::get_u8(tree, 0, header::ARRAYS) {
-            return refusals::DAMAGED;
+            return Err(Refusal::Damaged);
         }
         if 1 < wire::get_u8(tree, 0, header::DIVISOR) {
-            return refusals::DAMAGED;
+            return Err(Refusal::Damaged);
         }
         let table = RULES;
         if row_at(tree, header::LEVELS, 1, header::ROOT, tree.len(), &table) {
-            return refusals::ACCEPTED;
+            return Ok(());
         }
         // This pass tells 3 from 4.
         if row_at(
@@ -99,9 +100,9 @@ pub fn check_image(tree: &[u8]) -> u8
             tree.len(),
             &table,
         ) {
-            return refusals::TOO_DEEP;
+            return Err(Refusal::TooDeep);
         }
-        return refusals::DAMAGED;
+        return Err(Refusal::Damaged);
     }
-    refusals::NO_TREE_IMAGE
+    Err(Refusal::NoTreeImage)
 }
