@@ -1,4 +1,4 @@
-pub mod RuleTable
+pub mod WholeTable
 pub mod Table
 pub mod PayloadKinds
 pub mod Written

@@ -6,11 +6,10 @@ use mathlib.Core.List.{List}
 use native.Mathlib.Omega.{arith}
 use native.Mathlib.Decide.{dec_le}
 use lib.Dec.{leb, eqb}
-use lib.ListN.{get_or}
 use borrow.Author.Tests.{le-leb, lt-leb, eq-eqb, ne_eqb}
 use Rattle.ast.specs.Header.{arrays_of, divisor_of, ALL_LEVELS}
-use Rattle.ast.specs.Rules.{known, rule_of, HasRules}
-use Rattle.ast.proofs.RuleTable.{known_rule}
+use Rattle.ast.specs.Rules.{known, rule_of}
+use Rattle.ast.proofs.WholeTable.{known_rule}
 use Rattle.ast.specs.Node.{len_at, op_at, kind_at, size_at}
 use Rattle.ast.specs.Questions.{fits, whole, formed, shallow, rooted, questions}
 
@@ -20,15 +19,15 @@ leb_sub p l e h = elim (dec_le (p + l) e) [
   | no n ↦ lt-leb l (e - p) (omega arith) ∙ sym (lt-leb (p + l) e (omega arith))
 ]
 
--- a code is known where the table's entry for it is not 0
-known_by : (t : List ℕ) {r op x : ℕ} → HasRules t → r ≡ get_or t op 0 → op ≡ x → op < 256 → not (eqb r 0) ≡ known x
-known_by t {op = op} {x = x} h e o l = ap (λ (k : ℕ). not (eqb k 0)) (e ∙ h op l ∙ ap rule_of o) ∙ known_rule x
+-- a code is known where its rule is not 0
+known_by : {r op x : ℕ} → r ≡ rule_of op → op ≡ x → not (eqb r 0) ≡ known x
+known_by {x = x} e o = ap (λ (k : ℕ). not (eqb k 0)) (e ∙ ap rule_of o) ∙ known_rule x
 
-pub is_known : (t : List ℕ) {r op x : ℕ} → HasRules t → r ≡ get_or t op 0 → op ≡ x → op < 256 → (r ≡ 0 → ⊥) → known x ≡ true
-is_known t {r = r} h e o l n = sym (known_by t h e o l) ∙ ap not (ne_eqb r 0 n)
+pub is_known : {r op x : ℕ} → r ≡ rule_of op → op ≡ x → (r ≡ 0 → ⊥) → known x ≡ true
+is_known {r = r} e o n = sym (known_by e o) ∙ ap not (ne_eqb r 0 n)
 
-pub is_unknown : (t : List ℕ) {r op x : ℕ} → HasRules t → r ≡ get_or t op 0 → op ≡ x → op < 256 → r ≡ 0 → known x ≡ false
-is_unknown t {r = r} h e o l z = sym (known_by t h e o l) ∙ ap not (eq-eqb r 0 z)
+pub is_unknown : {r op x : ℕ} → r ≡ rule_of op → op ≡ x → r ≡ 0 → known x ≡ false
+is_unknown {r = r} e o z = sym (known_by e o) ∙ ap not (eq-eqb r 0 z)
 
 module _ (s : List ℕ) (p e : ℕ) where
   pub unknown : known (op_at s p) ≡ false → false ≡ fits s p e

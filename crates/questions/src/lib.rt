@@ -4,20 +4,17 @@
 ghost use Rattle.std.specs.Prelude.{◌≡◌};
 ghost use Rattle.answers.specs.Refusals.{number_of_result};
 ghost use Rattle.ast.specs.Node.{size_at};
-ghost use Rattle.ast.specs.Rules.{HasRules};
 ghost use Rattle.ast.specs.Questions.{fits, row, filled, whole, questions};
 
 use answers::refusals::Refusal;
-use ast::header;
-use ast::rules::RULES;
+use ast::{RuleTable, header};
 
 // The node at `p`, whose payload takes `size` bytes, is known, holds its own fields, and ends at `end` or before.
-fn fits_at(s: &[u8], p: usize, size: u16, end: usize, table: &[u8; 256]) -> bool
-    requires { (size ≡ size_at s.now p) × HasRules table.now }
+fn fits_at(s: &[u8], p: usize, size: u16, end: usize, table: &RuleTable) -> bool
+    requires { size ≡ size_at s.now p }
     ensures { result ≡ fits s.now p end }
 {
-    let op = tree::op_at(s, p);
-    if ast::rule_in(table, op) != 0 {
+    if table.rule(tree::op_at(s, p)) != 0 {
         if tree::kind_at(s, p) <= 12 {
             let len = tree::length_at(s, p) as usize;
             let own = 12 + (size as usize);
@@ -33,8 +30,7 @@ fn fits_at(s: &[u8], p: usize, size: u16, end: usize, table: &[u8; 256]) -> bool
 
 // From `p` on `n` nodes stand one behind the other up to `end`, each right inside to so many levels.
 // A payload's size is read once; count and children stand behind it. Most nodes have no children, and are told without a call.
-fn row_at(s: &[u8], levels: u16, n: u16, p: usize, end: usize, table: &[u8; 256]) -> bool
-    requires { HasRules table.now }
+fn row_at(s: &[u8], levels: u16, n: u16, p: usize, end: usize, table: &RuleTable) -> bool
     ensures { result ≡ row (filled levels s.now) s.now n p end }
 {
     if n == 0 {
@@ -87,7 +83,7 @@ pub fn check_image(tree: &[u8]) -> Result<(), Refusal>
         if 1 < wire::get_u8(tree, 0, header::DIVISOR) {
             return Err(Refusal::Damaged);
         }
-        let table = RULES;
+        let table = RuleTable::new();
         if row_at(tree, header::LEVELS, 1, header::ROOT, tree.len(), &table) {
             return Ok(());
         }

@@ -1,5 +1,5 @@
 use native.Mathlib.Omega.{arith}
-use Rattle.ast.proofs.RuleTable.{rules, rule_at_lem}
+use Rattle.ast.proofs.WholeTable.{rules, rule_at_lem}
 use Rattle.ast.proofs.low_rule.Goals as goal
 
 pub returns : goal.returns

@@ -1,4 +1,4 @@
-use Rattle.ast.proofs.RuleTable.{rules, rule_at_lem}
+use Rattle.ast.proofs.WholeTable.{rules, rule_at_lem}
 use Rattle.ast.proofs.rule.Goals as goal
 
 pub returns : goal.returns

@@ -1,4 +1,4 @@
-use Rattle.ast.proofs.RuleTable.{rules, rule_at_lem}
+use Rattle.ast.proofs.WholeTable.{rules, rule_at_lem}
 use Rattle.lowering.proofs.Levels.{lowered_all}
 use Rattle.lowering.proofs.lower.Goals as goal
 

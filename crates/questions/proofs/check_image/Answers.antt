@@ -4,7 +4,6 @@ use mathlib.Core.Path.{◌≡◌, sym, ◌∙◌}
 use native.Mathlib.Omega.{arith}
 use Prim.Native.Nat.{ℕ}
 use Rattle.ast.specs.Header.{LEVELS, ALL_LEVELS}
-use Rattle.ast.proofs.RuleTable.{rules, rule_at_lem}
 use Rattle.ast.specs.Questions.{rooted, whole, formed, shallow}
 use Rattle.questions.proofs.Cases.{settings, bad_arrays, bad_divisor, answer_0, answer_2, answer_3, answer_4}
 use Rattle.questions.proofs.MoreLevels.{more_levels}
@@ -22,10 +21,6 @@ returns-then-get_u8-gt1-2 c =
     let w : whole s ≡ true = sym c.whole_at.ensures ∙ c.if-whole_at.true in
     answer_3 s w (sym (bad_divisor s (omega arith) (omega arith)))
 
-pub row_at-requires : goal.row_at-requires
-unfolding rules
-row_at-requires c = rule_at_lem
-
 pub returns-then-row_at : goal.returns-then-row_at
 unfolding rooted shallow
 returns-then-row_at c =
@@ -34,10 +29,6 @@ returns-then-row_at c =
     let r : formed s ≡ rooted ALL_LEVELS s = sym (settings s (omega arith) (omega arith)) in
     let h : shallow s ≡ true = sym c.row_at.ensures ∙ c.if-row_at.true in
     answer_0 s w (r ∙ more_levels s LEVELS ALL_LEVELS (omega arith) h) h
-
-pub row_at-requires-then-whole_at : goal.row_at-requires-then-whole_at
-unfolding rules
-row_at-requires-then-whole_at c = rule_at_lem
 
 pub returns-then-row_at-2 : goal.returns-then-row_at-2
 unfolding rooted shallow

@@ -14,8 +14,7 @@ pub returns-then-p-end : goal.returns-then-p-end
 returns-then-p-end c =
     let a = c.args in
     let s : List ℕ = a.s.now in
-    let op = c.op_at-op in
-    let k : known (op_at s a.p) ≡ true = is_known a.table.now c.requires.1 c.rule_in.ensures op.ensures (omega (arith, op.type_inv)) c.if-rule_in-ne0.true in
+    let k : known (op_at s a.p) ≡ true = is_known c.rule.ensures c.op_at.ensures c.if-rule-ne0.true in
     let d : kind_at s a.p ≤ 12 = omega arith in
     let o : 12 + size_at s a.p ≤ len_at s a.p = omega arith in
     ap (λ (l : ℕ). leb (4 + l) (a.end - a.p)) c.length_at-len.ensures ∙ leb_sub a.p (4 + len_at s a.p) a.end (omega arith) ∙ ending s a.p a.end k d o
@@ -24,8 +23,7 @@ pub returns-else-p-end : goal.returns-else-p-end
 returns-else-p-end c =
     let a = c.args in
     let s : List ℕ = a.s.now in
-    let op = c.op_at-op in
-    let k : known (op_at s a.p) ≡ true = is_known a.table.now c.requires.1 c.rule_in.ensures op.ensures (omega (arith, op.type_inv)) c.if-rule_in-ne0.true in
+    let k : known (op_at s a.p) ≡ true = is_known c.rule.ensures c.op_at.ensures c.if-rule-ne0.true in
     let d : kind_at s a.p ≤ 12 = omega arith in
     let o : 12 + size_at s a.p ≤ len_at s a.p = omega arith in
     lt-leb a.p a.end (omega arith) ∙ sym (lt-leb (a.p + (4 + len_at s a.p)) a.end (omega arith)) ∙ ending s a.p a.end k d o
@@ -34,22 +32,19 @@ pub returns-then-kind_at-le12 : goal.returns-then-kind_at-le12
 returns-then-kind_at-le12 c =
     let a = c.args in
     let s : List ℕ = a.s.now in
-    let op = c.op_at-op in
-    let k : known (op_at s a.p) ≡ true = is_known a.table.now c.requires.1 c.rule_in.ensures op.ensures (omega (arith, op.type_inv)) c.if-rule_in-ne0.true in
+    let k : known (op_at s a.p) ≡ true = is_known c.rule.ensures c.op_at.ensures c.if-rule-ne0.true in
     short s a.p a.end k (omega arith) (omega arith)
 
-pub returns-then-rule_in-ne0 : goal.returns-then-rule_in-ne0
-returns-then-rule_in-ne0 c =
+pub returns-then-rule-ne0 : goal.returns-then-rule-ne0
+returns-then-rule-ne0 c =
     let a = c.args in
     let s : List ℕ = a.s.now in
-    let op = c.op_at-op in
-    let k : known (op_at s a.p) ≡ true = is_known a.table.now c.requires.1 c.rule_in.ensures op.ensures (omega (arith, op.type_inv)) c.if-rule_in-ne0.true in
+    let k : known (op_at s a.p) ≡ true = is_known c.rule.ensures c.op_at.ensures c.if-rule-ne0.true in
     unkind s a.p a.end k (omega arith)
 
 pub returns : goal.returns
 returns c =
     let a = c.args in
     let s : List ℕ = a.s.now in
-    let op = c.op_at-op in
-    let k : known (op_at s a.p) ≡ false = is_unknown a.table.now c.requires.1 c.rule_in.ensures op.ensures (omega (arith, op.type_inv)) c.if-rule_in-ne0.false in
+    let k : known (op_at s a.p) ≡ false = is_unknown c.rule.ensures c.op_at.ensures c.if-rule-ne0.false in
     unknown s a.p a.end k
