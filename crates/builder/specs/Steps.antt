@@ -1,5 +1,7 @@
 -- What each step of the builder makes of its state and the workspace's words. Definitions only.
-use Rattle.std.specs.Prelude.{true, false, cond, List, ℕ, ◌*◌, eqb}
+use Rattle.std.specs.Prelude.{true, false, cond, List, ℕ, ◌*◌, Some}
+use Rattle.std.specs.Option.{option_or}
+use Rattle.answers.specs.declared.refusals.Refusal.{Refusal}
 use Rattle.program.specs.Opcodes as O
 use Rattle.depth.specs.Counters as D
 use Rattle.code.specs.Segments as G
@@ -32,11 +34,11 @@ put_const index h =
     (emitted (alone O.CONST) index h)
 
 -- 01, Nine questions: "Of 5 to 8 the first met in lowering decides."
-unfoldable pub refused : ℕ → State → State
-refused number s = cond (eqb s.refusal 0) (set_refusal number s) s
+unfoldable pub refused : Refusal → State → State
+refused why s = set_refusal (option_or s.refusal (Some why)) s
 
-unfoldable pub failed : ℕ → Held → Held
-failed number h = (refused number (flushed h).0, (flushed h).1)
+unfoldable pub failed : Refusal → Held → Held
+failed why h = (refused why (flushed h).0, (flushed h).1)
 
 unfoldable pub pushed : State → State
 pushed s = set_waiting true (set_depth (D.pushed s.depth) s)

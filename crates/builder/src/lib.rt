@@ -6,6 +6,7 @@ pub mod segments;
 ghost use Rattle.std.specs.Prelude.{◌≡◌, List};
 ghost use Rattle.builder.specs.Steps.{Held, emitted, flushed, put, put_const, refused, failed, pushed};
 
+use answers::refusals::Refusal;
 use code::segment;
 use depth::Depth;
 use program::ConstIdx;
@@ -37,7 +38,7 @@ pub struct State {
     pub flags: u16,
     pub waiting: bool,
     pub float_loop: bool,
-    pub refusal: u8,
+    pub refusal: Option<Refusal>,
 }
 
 // Appends an instruction to the open code.
@@ -82,22 +83,19 @@ pub fn put_const(ws: &mut [u32], st: State, index: ConstIdx) -> State
 }
 
 // The first refusal stays.
-fn refuse(st: State, number: u8) -> State
-    ensures { result ≡ refused number st }
+fn refuse(st: State, why: Refusal) -> State
+    ensures { result ≡ refused why st }
 {
-    if st.refusal == 0 {
-        let mut s = st;
-        s.refusal = number;
-        return s;
-    }
-    st
+    let mut s = st;
+    s.refusal = st.refusal.or(Some(why));
+    s
 }
 
-pub fn failed(ws: &mut [u32], st: State, number: u8) -> State
-    ensures { ◌≡◌ {A = Held} (result, ws.new) (failed number (st, ws.old)) }
+pub fn failed(ws: &mut [u32], st: State, why: Refusal) -> State
+    ensures { ◌≡◌ {A = Held} (result, ws.new) (failed why (st, ws.old)) }
 {
     let s = flush(ws, st);
-    refuse(s, number)
+    refuse(s, why)
 }
 
 // A Push waits, and one more operand is on the stack.

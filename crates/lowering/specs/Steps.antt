@@ -7,114 +7,19 @@ use Rattle.builder.specs.declared.State.{State}
 use Rattle.builder.specs.Fields.{set_depth, set_flags}
 
 abbrev pub set_stores : ℕ → State → State
-set_stores x s = record {
-  top = s.top;
-  base = s.base;
-  finished = s.finished;
-  waiting = s.waiting;
-  consts = s.consts;
-  posts = s.posts;
-  hashes = s.hashes;
-  names = s.names;
-  temps = s.temps;
-  members = s.members;
-  stores = x;
-  paths = s.paths;
-  calls = s.calls;
-  arguments = s.arguments;
-  depth = s.depth;
-  flags = s.flags;
-  float_loop = s.float_loop;
-  refusal = s.refusal;
-}
+set_stores x s = record s { stores = x }
 
 abbrev pub set_paths : ℕ → State → State
-set_paths x s = record {
-  top = s.top;
-  base = s.base;
-  finished = s.finished;
-  waiting = s.waiting;
-  consts = s.consts;
-  posts = s.posts;
-  hashes = s.hashes;
-  names = s.names;
-  temps = s.temps;
-  members = s.members;
-  stores = s.stores;
-  paths = x;
-  calls = s.calls;
-  arguments = s.arguments;
-  depth = s.depth;
-  flags = s.flags;
-  float_loop = s.float_loop;
-  refusal = s.refusal;
-}
+set_paths x s = record s { paths = x }
 
 abbrev pub set_calls : ℕ → State → State
-set_calls x s = record {
-  top = s.top;
-  base = s.base;
-  finished = s.finished;
-  waiting = s.waiting;
-  consts = s.consts;
-  posts = s.posts;
-  hashes = s.hashes;
-  names = s.names;
-  temps = s.temps;
-  members = s.members;
-  stores = s.stores;
-  paths = s.paths;
-  calls = x;
-  arguments = s.arguments;
-  depth = s.depth;
-  flags = s.flags;
-  float_loop = s.float_loop;
-  refusal = s.refusal;
-}
+set_calls x s = record s { calls = x }
 
 abbrev pub set_arguments : ℕ → State → State
-set_arguments x s = record {
-  top = s.top;
-  base = s.base;
-  finished = s.finished;
-  waiting = s.waiting;
-  consts = s.consts;
-  posts = s.posts;
-  hashes = s.hashes;
-  names = s.names;
-  temps = s.temps;
-  members = s.members;
-  stores = s.stores;
-  paths = s.paths;
-  calls = s.calls;
-  arguments = x;
-  depth = s.depth;
-  flags = s.flags;
-  float_loop = s.float_loop;
-  refusal = s.refusal;
-}
+set_arguments x s = record s { arguments = x }
 
 abbrev pub set_float_loop : Bool → State → State
-set_float_loop x s = record {
-  top = s.top;
-  base = s.base;
-  finished = s.finished;
-  waiting = s.waiting;
-  consts = s.consts;
-  posts = s.posts;
-  hashes = s.hashes;
-  names = s.names;
-  temps = s.temps;
-  members = s.members;
-  stores = s.stores;
-  paths = s.paths;
-  calls = s.calls;
-  arguments = s.arguments;
-  depth = s.depth;
-  flags = s.flags;
-  float_loop = x;
-  refusal = s.refusal;
-}
+set_float_loop x s = record s { float_loop = x }
 
 -- one more operand without a Push; k fewer
 unfoldable pub operand_entered : State → State

@@ -7,4 +7,4 @@ pub returns : goal.returns
 unfolding failed
 returns c =
     ◌∙◌ {A = Held} (ap (λ (x : State). (x, c.flush-s.new.ws)) c.refuse.ensures)
-    (ap (λ (h : Held). (refused c.args.number h.0, h.1)) c.flush-s.ensures)
+    (ap (λ (h : Held). (refused c.args.why h.0, h.1)) c.flush-s.ensures)
