@@ -1,4 +1,7 @@
 -- Of each rule with operands, what comes out of its calls, over any lowering of its children. Assumes nothing.
+use Rattle.answers.specs.declared.refusals.Refusal.{Refusal}
+use Rattle.answers.specs.declared.refusals.Refusal.TheVariants as Refusal
+use Rattle.std.proofs.Common.{None, Some}
 use mathlib.Core.Path.{◌≡◌, refl}
 use mathlib.Core.Bool.{Bool, true, false}
 use mathlib.Core.List.{List, [], ◌∷◌}
@@ -37,15 +40,15 @@ use Rattle.lowering.specs.contracts.control.EachIndex as index
 module _ (t : List ℕ) (E : ℕ → Bool → Step) (C : ℕ → NameRef → Bool → Step) (R : ℕ → Bool → Step) (p : ℕ) (l : Bool) (h : Held) where
   -- ---- values
 
-  pub array_old : {v : ℕ} {g : Held} → v ≡ be8 t 0 5 → (v ≡ 1 → ⊥) → g ≡ failed 5 h → g ≡ array_element t E C R p l h
+  pub array_old : {v : ℕ} {g : Held} → v ≡ be8 t 0 5 → (v ≡ 1 → ⊥) → g ≡ failed Refusal.UsesArrays h → g ≡ array_element t E C R p l h
   unfolding array_element
   array_old ev n e = rw (← ev, ne_eqb _ _ n) e
 
-  pub array_count : {v k : ℕ} {g : Held} → v ≡ be8 t 0 5 → v ≡ 1 → k ≡ count_at t p → (k ≡ 1 → ⊥) → g ≡ failed 7 h → g ≡ array_element t E C R p l h
+  pub array_count : {v k : ℕ} {g : Held} → v ≡ be8 t 0 5 → v ≡ 1 → k ≡ count_at t p → (k ≡ 1 → ⊥) → g ≡ failed Refusal.Failed h → g ≡ array_element t E C R p l h
   unfolding array_element
   array_count ev z ek n e = rw (← ev, eq-eqb _ _ z, ← ek, ne_eqb _ _ n) e
 
-  pub array_other : {v k : ℕ} {y : Payload} {g : Held} → v ≡ be8 t 0 5 → v ≡ 1 → k ≡ count_at t p → k ≡ 1 → y ≡ payload t p → OneOf (0 ∷ 1 ∷ 2 ∷ 3 ∷ 4 ∷ 5 ∷ 6 ∷ 8 ∷ 9 ∷ 10 ∷ 11 ∷ 12 ∷ []) (tag_of the_type y) → g ≡ failed 7 h → g ≡ array_element t E C R p l h
+  pub array_other : {v k : ℕ} {y : Payload} {g : Held} → v ≡ be8 t 0 5 → v ≡ 1 → k ≡ count_at t p → k ≡ 1 → y ≡ payload t p → OneOf (0 ∷ 1 ∷ 2 ∷ 3 ∷ 4 ∷ 5 ∷ 6 ∷ 8 ∷ 9 ∷ 10 ∷ 11 ∷ 12 ∷ []) (tag_of the_type y) → g ≡ failed Refusal.Failed h → g ≡ array_element t E C R p l h
   unfolding array_element
   array_other {y = y} ev z ek n ey o e = rw (← ev, eq-eqb _ _ z, ← ek, eq-eqb _ _ n, ← ey, no_array y _ _ o) e
 
@@ -53,11 +56,11 @@ module _ (t : List ℕ) (E : ℕ → Bool → Step) (C : ℕ → NameRef → Boo
   unfolding array_element as_name cases
   array_all ev z ek n ey en e1 ea e2 e3 = rw (← ev, eq-eqb _ _ z, ← ek, eq-eqb _ _ n, ← ey, en, e3, e2, ea, e1)
 
-  pub member_other : {y : Payload} {s1 s2 : State} {g : Held} → s1 ≡ not_float_only h.0 → s2 ≡ flagged 16 s1 → y ≡ payload t p → OneOf (0 ∷ 1 ∷ 2 ∷ 3 ∷ 4 ∷ 5 ∷ 7 ∷ 8 ∷ 9 ∷ 10 ∷ 11 ∷ 12 ∷ []) (tag_of the_type y) → g ≡ failed 7 (s2, h.1) → g ≡ member_read t E C R p l h
+  pub member_other : {y : Payload} {s1 s2 : State} {g : Held} → s1 ≡ not_float_only h.0 → s2 ≡ flagged 16 s1 → y ≡ payload t p → OneOf (0 ∷ 1 ∷ 2 ∷ 3 ∷ 4 ∷ 5 ∷ 7 ∷ 8 ∷ 9 ∷ 10 ∷ 11 ∷ 12 ∷ []) (tag_of the_type y) → g ≡ failed Refusal.Failed (s2, h.1) → g ≡ member_read t E C R p l h
   unfolding member_read
   member_other e1 e2 ey o e = rw (e, e2, e1) (not_member _ _ ey o)
 
-  pub member_none : {k : ℕ} {y : Payload} {n : NameRef} {s1 s2 : State} {g : Held} → s1 ≡ not_float_only h.0 → s2 ≡ flagged 16 s1 → y ≡ payload t p → y ≡ Member n → k ≡ count_at t p → k ≡ 0 → g ≡ failed 7 (s2, h.1) → g ≡ member_read t E C R p l h
+  pub member_none : {k : ℕ} {y : Payload} {n : NameRef} {s1 s2 : State} {g : Held} → s1 ≡ not_float_only h.0 → s2 ≡ flagged 16 s1 → y ≡ payload t p → y ≡ Member n → k ≡ count_at t p → k ≡ 0 → g ≡ failed Refusal.Failed (s2, h.1) → g ≡ member_read t E C R p l h
   unfolding member_read chained as_name cases
   member_none e1 e2 ey en ek z e = rw (← ey, en, ← ek, eq-eqb _ _ z, e, e2, e1)
 
@@ -65,7 +68,7 @@ module _ (t : List ℕ) (E : ℕ → Bool → Step) (C : ℕ → NameRef → Boo
   unfolding member_read chained as_name cases
   member_all e1 e2 ey en ek z ea e3 e4 = rw (← ey, en, ← ek, ne_eqb _ _ z, e4, e3, ea, e2, e1)
 
-  pub chained_none : (n : NameRef) {k : ℕ} {g : Held} → k ≡ count_at t p → k ≡ 0 → g ≡ failed 7 h → g ≡ chained t E C R p n l h
+  pub chained_none : (n : NameRef) {k : ℕ} {g : Held} → k ≡ count_at t p → k ≡ 0 → g ≡ failed Refusal.Failed h → g ≡ chained t E C R p n l h
   unfolding chained
   chained_none n ek z e = rw (← ek, eq-eqb _ _ z) e
 
@@ -73,17 +76,17 @@ module _ (t : List ℕ) (E : ℕ → Bool → Step) (C : ℕ → NameRef → Boo
   unfolding chained
   chained_all n ek z ea e1 e2 = rw (← ek, ne_eqb _ _ z, e2, e1, ea)
 
-  pub assignment_none : (n : ℕ) {k : ℕ} {g : Held} → k ≡ count_at t p → k ≡ 0 → g ≡ failed 7 h → g ≡ assignment t E C R n p l h
+  pub assignment_none : (n : ℕ) {k : ℕ} {g : Held} → k ≡ count_at t p → k ≡ 0 → g ≡ failed Refusal.Failed h → g ≡ assignment t E C R n p l h
   unfolding assignment
   assignment_none n ek z e = rw (← ek, eq-eqb _ _ z) e
 
-  pub assignment_refused : (n : ℕ) {k a r : ℕ} {g : Held} → k ≡ count_at t p → (k ≡ 0 → ⊥) → a ≡ first_at t p → r ≡ target_refusal t a → (r ≡ 0 → ⊥) → g ≡ failed r h → g ≡ assignment t E C R n p l h
+  pub assignment_refused : (n : ℕ) {k a : ℕ} {r : Refusal} {g : Held} → k ≡ count_at t p → (k ≡ 0 → ⊥) → a ≡ first_at t p → Some r ≡ target_refusal t a → g ≡ failed r h → g ≡ assignment t E C R n p l h
   unfolding assignment
-  assignment_refused n ek z ea er y e = rw (← ek, ne_eqb _ _ z, ← ea, ← er, ne_eqb _ _ y) e
+  assignment_refused n ek z ea er e = rw (← ek, ne_eqb _ _ z, ← ea, ← er) e
 
-  pub assignment_all : (n : ℕ) {k a r : ℕ} {s : State} {h1 h2 : Held} → k ≡ count_at t p → (k ≡ 0 → ⊥) → a ≡ first_at t p → r ≡ target_refusal t a → r ≡ 0 → s ≡ flagged 32 h.0 → h1 ≡ value t E C R p a l (s, h.1) → h2 ≡ store t n a p h1 → h2 ≡ assignment t E C R n p l h
+  pub assignment_all : (n : ℕ) {k a : ℕ} {s : State} {h1 h2 : Held} → k ≡ count_at t p → (k ≡ 0 → ⊥) → a ≡ first_at t p → None ≡ target_refusal t a → s ≡ flagged 32 h.0 → h1 ≡ value t E C R p a l (s, h.1) → h2 ≡ store t n a p h1 → h2 ≡ assignment t E C R n p l h
   unfolding assignment
-  assignment_all n ek z ea er y e1 e2 e3 = rw (← ek, ne_eqb _ _ z, ← ea, ← er, eq-eqb _ _ y, e3, e2, e1)
+  assignment_all n ek z ea er e1 e2 e3 = rw (← ek, ne_eqb _ _ z, ← ea, ← er, e3, e2, e1)
 
   pub value_const : (a : ℕ) {k b : ℕ} {y : Payload} {g : Held} → k ≡ count_at t p → k ≡ 1 → y ≡ payload t p → b ≡ const_of y → g ≡ constant b h → g ≡ value t E C R p a l h
   unfolding value
@@ -99,7 +102,7 @@ module _ (t : List ℕ) (E : ℕ → Bool → Step) (C : ℕ → NameRef → Boo
   unfolding binary
   binary_all e1 e2 eb e3 = rw (e3, eb, e2, e1)
 
-  pub compare_none : (o : ℕ) {k : ℕ} {g : Held} → k ≡ count_at t p → k ≡ 0 → g ≡ failed 7 h → g ≡ compare t E C R o p l h
+  pub compare_none : (o : ℕ) {k : ℕ} {g : Held} → k ≡ count_at t p → k ≡ 0 → g ≡ failed Refusal.Failed h → g ≡ compare t E C R o p l h
   unfolding compare
   compare_none o ek z e = rw (← ek, eq-eqb _ _ z) e
 
@@ -111,7 +114,7 @@ module _ (t : List ℕ) (E : ℕ → Bool → Step) (C : ℕ → NameRef → Boo
   unfolding compare
   compare_all o ek z ex ea y e1 e2 e3 = rw (← ek, ne_eqb _ _ z, ne_eqb _ _ y, e3, e2, e1, ex, ea)
 
-  pub equal_none : (o : ℕ) {k : ℕ} {g : Held} → k ≡ count_at t p → k ≡ 0 → g ≡ failed 7 h → g ≡ equal t E C R o p l h
+  pub equal_none : (o : ℕ) {k : ℕ} {g : Held} → k ≡ count_at t p → k ≡ 0 → g ≡ failed Refusal.Failed h → g ≡ equal t E C R o p l h
   unfolding equal
   equal_none o ek z e = rw (← ek, eq-eqb _ _ z) e
 
@@ -123,7 +126,7 @@ module _ (t : List ℕ) (E : ℕ → Bool → Step) (C : ℕ → NameRef → Boo
   unfolding equal
   equal_all o ek z ex ea y e1 e2 e3 = rw (← ek, ne_eqb _ _ z, ne_eqb _ _ y, e3, e2, e1, ex, ea)
 
-  pub logical_none : (step last : ℕ) {k : ℕ} {g : Held} → k ≡ count_at t p → k ≡ 0 → g ≡ failed 7 h → g ≡ logic t E C R step last p l h
+  pub logical_none : (step last : ℕ) {k : ℕ} {g : Held} → k ≡ count_at t p → k ≡ 0 → g ≡ failed Refusal.Failed h → g ≡ logic t E C R step last p l h
   unfolding logic
   logical_none step last ek z e = rw (← ek, eq-eqb _ _ z) e
 
@@ -142,7 +145,7 @@ module _ (t : List ℕ) (E : ℕ → Bool → Step) (C : ℕ → NameRef → Boo
 
   -- ---- arithmetic
 
-  pub bracket_none : {k : ℕ} {g : Held} → k ≡ count_at t p → k ≡ 0 → g ≡ failed 7 h → g ≡ bracket t E C R p l h
+  pub bracket_none : {k : ℕ} {g : Held} → k ≡ count_at t p → k ≡ 0 → g ≡ failed Refusal.Failed h → g ≡ bracket t E C R p l h
   unfolding bracket
   bracket_none ek z e = rw (← ek, eq-eqb _ _ z) e
 
@@ -150,7 +153,7 @@ module _ (t : List ℕ) (E : ℕ → Bool → Step) (C : ℕ → NameRef → Boo
   unfolding bracket
   bracket_all ek z ea e = rw (← ek, ne_eqb _ _ z, e, ea)
 
-  pub unary_none : (op : ℕ) {k : ℕ} {g : Held} → k ≡ count_at t p → k ≡ 0 → g ≡ failed 7 h → g ≡ unary t E C R op p l h
+  pub unary_none : (op : ℕ) {k : ℕ} {g : Held} → k ≡ count_at t p → k ≡ 0 → g ≡ failed Refusal.Failed h → g ≡ unary t E C R op p l h
   unfolding unary
   unary_none op ek z e = rw (← ek, eq-eqb _ _ z) e
 
@@ -158,7 +161,7 @@ module _ (t : List ℕ) (E : ℕ → Bool → Step) (C : ℕ → NameRef → Boo
   unfolding unary
   unary_all op ek z ea e1 e2 = rw (← ek, ne_eqb _ _ z, e2, e1, ea)
 
-  pub add_none : {k : ℕ} {g : Held} → k ≡ count_at t p → k ≡ 0 → g ≡ failed 7 h → g ≡ add t E C R p l h
+  pub add_none : {k : ℕ} {g : Held} → k ≡ count_at t p → k ≡ 0 → g ≡ failed Refusal.Failed h → g ≡ add t E C R p l h
   unfolding add
   add_none ek z e = rw (← ek, eq-eqb _ _ z) e
 
@@ -170,7 +173,7 @@ module _ (t : List ℕ) (E : ℕ → Bool → Step) (C : ℕ → NameRef → Boo
   unfolding add
   add_all ek z ea e1 y e2 eb e3 e4 = rw (← ek, ne_eqb _ _ z, ne_eqb _ _ y, e4, e3, eb, e2, e1, ea)
 
-  pub mul_few : {k : ℕ} {g : Held} → k ≡ count_at t p → k < 2 → g ≡ failed 7 h → g ≡ mul t E C R p l h
+  pub mul_few : {k : ℕ} {g : Held} → k ≡ count_at t p → k < 2 → g ≡ failed Refusal.Failed h → g ≡ mul t E C R p l h
   unfolding mul
   mul_few ek z e = rw (← ek, lt-ltb _ _ z) e
 
@@ -178,7 +181,7 @@ module _ (t : List ℕ) (E : ℕ → Bool → Step) (C : ℕ → NameRef → Boo
   unfolding mul
   mul_all ek z ea e1 e2 e3 = rw (← ek, le-ltb _ _ z, e3, e2, e1, ea)
 
-  pub div_few : {k : ℕ} {g : Held} → k ≡ count_at t p → k < 2 → g ≡ failed 7 h → g ≡ div t E C R p l h
+  pub div_few : {k : ℕ} {g : Held} → k ≡ count_at t p → k < 2 → g ≡ failed Refusal.Failed h → g ≡ div t E C R p l h
   unfolding div
   div_few ek z e = rw (← ek, lt-ltb _ _ z) e
 
@@ -186,15 +189,15 @@ module _ (t : List ℕ) (E : ℕ → Bool → Step) (C : ℕ → NameRef → Boo
   unfolding div
   div_all ek z ea eb e1 ed ex e2 e3 e4 e5 e6 = rw (← ek, le-ltb _ _ z, e6, e5, e4, e3, e2, ex, ed, e1, eb, ea)
 
-  pub math_other : (bits : ℕ) {y : Payload} {s : State} {g : Held} → s ≡ flagged bits h.0 → y ≡ payload t p → OneOf (0 ∷ 1 ∷ 2 ∷ 3 ∷ 4 ∷ 5 ∷ 6 ∷ 7 ∷ 8 ∷ 9 ∷ 10 ∷ 11 ∷ []) (tag_of the_type y) → g ≡ failed 7 (s, h.1) → g ≡ host_math t E C R bits p l h
+  pub math_other : (bits : ℕ) {y : Payload} {s : State} {g : Held} → s ≡ flagged bits h.0 → y ≡ payload t p → OneOf (0 ∷ 1 ∷ 2 ∷ 3 ∷ 4 ∷ 5 ∷ 6 ∷ 7 ∷ 8 ∷ 9 ∷ 10 ∷ 11 ∷ []) (tag_of the_type y) → g ≡ failed Refusal.Failed (s, h.1) → g ≡ host_math t E C R bits p l h
   unfolding host_math
   math_other bits {y = y} e1 ey o e = rw (← ey, no_math y _ _ o, e, e1)
 
-  pub math_none : (bits : ℕ) {k f : ℕ} {y : Payload} {s : State} {g : Held} → s ≡ flagged bits h.0 → y ≡ payload t p → y ≡ HostMath f → k ≡ count_at t p → k ≡ 0 → g ≡ failed 7 (s, h.1) → g ≡ host_math t E C R bits p l h
+  pub math_none : (bits : ℕ) {k f : ℕ} {y : Payload} {s : State} {g : Held} → s ≡ flagged bits h.0 → y ≡ payload t p → y ≡ HostMath f → k ≡ count_at t p → k ≡ 0 → g ≡ failed Refusal.Failed (s, h.1) → g ≡ host_math t E C R bits p l h
   unfolding host_math as_math cases
   math_none bits e1 ey en ek z e = rw (← ey, en, ← ek, eq-eqb _ _ z, e, e1)
 
-  pub math_many : (bits : ℕ) {k f : ℕ} {y : Payload} {s : State} {g : Held} → s ≡ flagged bits h.0 → y ≡ payload t p → y ≡ HostMath f → k ≡ count_at t p → (k ≡ 0 → ⊥) → 255 < k → g ≡ failed 7 (s, h.1) → g ≡ host_math t E C R bits p l h
+  pub math_many : (bits : ℕ) {k f : ℕ} {y : Payload} {s : State} {g : Held} → s ≡ flagged bits h.0 → y ≡ payload t p → y ≡ HostMath f → k ≡ count_at t p → (k ≡ 0 → ⊥) → 255 < k → g ≡ failed Refusal.Failed (s, h.1) → g ≡ host_math t E C R bits p l h
   unfolding host_math as_math cases
   math_many bits e1 ey en ek z w e = rw (← ey, en, ← ek, ne_eqb _ _ z, lt-ltb _ _ w, e, e1)
 
@@ -204,7 +207,7 @@ module _ (t : List ℕ) (E : ℕ → Bool → Step) (C : ℕ → NameRef → Boo
 
   -- ---- calls
 
-  pub pointer_few : {k : ℕ} {s1 s2 : State} {g : Held} → s1 ≡ not_float_only h.0 → s2 ≡ flagged 128 s1 → k ≡ count_at t p → k < 2 → g ≡ failed 7 (s2, h.1) → g ≡ pointer t E C R p l h
+  pub pointer_few : {k : ℕ} {s1 s2 : State} {g : Held} → s1 ≡ not_float_only h.0 → s2 ≡ flagged 128 s1 → k ≡ count_at t p → k < 2 → g ≡ failed Refusal.Failed (s2, h.1) → g ≡ pointer t E C R p l h
   unfolding pointer
   pointer_few e1 e2 ek z e = rw (← ek, lt-ltb _ _ z, e, e2, e1)
 
@@ -214,7 +217,7 @@ module _ (t : List ℕ) (E : ℕ → Bool → Step) (C : ℕ → NameRef → Boo
 
   -- ---- control
 
-  pub coalesce_few : {k : ℕ} {g : Held} → k ≡ count_at t p → k < 2 → g ≡ failed 7 h → g ≡ coalesce t E C R p l h
+  pub coalesce_few : {k : ℕ} {g : Held} → k ≡ count_at t p → k < 2 → g ≡ failed Refusal.Failed h → g ≡ coalesce t E C R p l h
   unfolding coalesce
   coalesce_few ek z e = rw (← ek, lt-ltb _ _ z) e
 
@@ -230,7 +233,7 @@ module _ (t : List ℕ) (E : ℕ → Bool → Step) (C : ℕ → NameRef → Boo
   unfolding alternative
   other_all b ek z ed e = rw (← ek, le-ltb _ _ z, e, ed)
 
-  pub conditional_few : {k : ℕ} {g : Held} → k ≡ count_at t p → k < 2 → g ≡ failed 7 h → g ≡ conditional t E C R p l h
+  pub conditional_few : {k : ℕ} {g : Held} → k ≡ count_at t p → k < 2 → g ≡ failed Refusal.Failed h → g ≡ conditional t E C R p l h
   unfolding conditional
   conditional_few ek z e = rw (← ek, lt-ltb _ _ z) e
 
@@ -254,7 +257,7 @@ module _ (t : List ℕ) (E : ℕ → Bool → Step) (C : ℕ → NameRef → Boo
   unfolding ret
   ret_all ek z ea e1 e2 = rw (← ek, ne_eqb _ _ z, e2, e1, ea)
 
-  pub loop_few : {k : ℕ} {s : State} {g : Held} → s ≡ flagged 64 h.0 → k ≡ count_at t p → k < 2 → g ≡ failed 7 (s, h.1) → g ≡ counted_loop t E C R p l h
+  pub loop_few : {k : ℕ} {s : State} {g : Held} → s ≡ flagged 64 h.0 → k ≡ count_at t p → k < 2 → g ≡ failed Refusal.Failed (s, h.1) → g ≡ counted_loop t E C R p l h
   unfolding counted_loop
   loop_few e1 ek z e = rw (← ek, lt-ltb _ _ z, e, e1)
 
@@ -262,7 +265,7 @@ module _ (t : List ℕ) (E : ℕ → Bool → Step) (C : ℕ → NameRef → Boo
   unfolding counted_loop
   loop_all e1 ek z ea e2 ex e3 e4 eb e5 e6 e7 e8 ev e9 = rw (← ek, le-ltb _ _ z, e9, ev, e8, e7, e6, e5, eb, e4, e3, ex, e2, ea, e1)
 
-  pub each_few : {k : ℕ} {s1 s2 : State} {g : Held} → s1 ≡ flagged 64 h.0 → s2 ≡ not_float_only s1 → k ≡ count_at t p → k < 3 → g ≡ failed 7 (s2, h.1) → g ≡ for_each t E C R p l h
+  pub each_few : {k : ℕ} {s1 s2 : State} {g : Held} → s1 ≡ flagged 64 h.0 → s2 ≡ not_float_only s1 → k ≡ count_at t p → k < 3 → g ≡ failed Refusal.Failed (s2, h.1) → g ≡ for_each t E C R p l h
   unfolding for_each
   each_few e1 e2 ek z e = rw (← ek, lt-ltb _ _ z, e, e2, e1)
 
@@ -279,7 +282,7 @@ module _ (t : List ℕ) (E : ℕ → Bool → Step) (C : ℕ → NameRef → Boo
   each_all next ea eb e1 ex ey e2 ed e3 e4 e5 ev e6 = rw (e6, ev, e5, e4, e3, ed, e2, ey, ex, e1, eb, ea)
 
 module _ (t : List ℕ) (E : ℕ → Bool → Step) (C : ℕ → NameRef → Bool → Step) (R : ℕ → Bool → Step) (p : ℕ) where
-  pub query_other : (h : Held) {y : Payload} {g : Held} → y ≡ payload t p → OneOf (0 ∷ 1 ∷ 2 ∷ 3 ∷ 4 ∷ 5 ∷ 6 ∷ 7 ∷ 8 ∷ 9 ∷ 10 ∷ 12 ∷ []) (tag_of the_type y) → g ≡ failed 7 h → g ≡ query t E C R p h
+  pub query_other : (h : Held) {y : Payload} {g : Held} → y ≡ payload t p → OneOf (0 ∷ 1 ∷ 2 ∷ 3 ∷ 4 ∷ 5 ∷ 6 ∷ 7 ∷ 8 ∷ 9 ∷ 10 ∷ 12 ∷ []) (tag_of the_type y) → g ≡ failed Refusal.Failed h → g ≡ query t E C R p h
   unfolding query
   query_other h {y = y} ey o e = rw (← ey, no_query y _ _ o) e
 

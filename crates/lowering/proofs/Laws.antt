@@ -1,4 +1,5 @@
 -- What the parts of a rule give, put together as its definition has them. Assumes nothing.
+use Rattle.answers.specs.declared.refusals.Refusal.TheVariants as Refusal
 use mathlib.Core.Path.{◌≡◌, sym, ap, ◌∙◌}
 use mathlib.Core.Bool.{Bool, cond}
 use mathlib.Core.List.{List}
@@ -43,7 +44,7 @@ same_entry i e f = λ j. (record { state = e j; index = i }, f j)
 pub same_held : {s t : State} {u v : List ℕ} → s ≡ t → u ≡ v → ◌≡◌ {A = Held} (s, u) (t, v)
 same_held e f = λ j. (e j, f j)
 
-pub refused_variable : {g : Held} (h : Held) → g ≡ failed 7 h → ◌≡◌ {A = EachVariable × List ℕ} (record { state = g.0; index = Refused }, g.1) (no_variable h)
+pub refused_variable : {g : Held} (h : Held) → g ≡ failed Refusal.Failed h → ◌≡◌ {A = EachVariable × List ℕ} (record { state = g.0; index = Refused }, g.1) (no_variable h)
 unfolding no_variable
 refused_variable h e = λ j. (record { state = (e j).0; index = Refused }, (e j).1)
 

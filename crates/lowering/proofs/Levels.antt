@@ -1,4 +1,5 @@
 -- An expression, a member path's base and a Return of so many levels, by the rule of their node. Assumes nothing.
+use Rattle.answers.specs.declared.refusals.Refusal.TheVariants as Refusal
 use mathlib.Core.Path.{◌≡◌, refl, sym, ◌∙◌}
 use mathlib.Core.Bool.{Bool, false, cond}
 use mathlib.Core.List.{List}
@@ -16,15 +17,15 @@ use Rattle.lowering.specs.Rules.{rule, leaf, chained, ret, branches, branch, exp
 use Rattle.lowering.proofs.Missed.{None, missed}
 
 module _ (t : List ℕ) (n p : ℕ) (l : Bool) (h : Held) where
-  pub expr_none : {g : Held} → n ≡ 0 → g ≡ failed 7 h → g ≡ expr t n p l h
+  pub expr_none : {g : Held} → n ≡ 0 → g ≡ failed Refusal.Failed h → g ≡ expr t n p l h
   unfolding expr
   expr_none z e = rw z e
 
-  pub chain_none : (x : NameRef) {g : Held} → n ≡ 0 → g ≡ failed 7 h → g ≡ chain t n p x l h
+  pub chain_none : (x : NameRef) {g : Held} → n ≡ 0 → g ≡ failed Refusal.Failed h → g ≡ chain t n p x l h
   unfolding chain
   chain_none x z e = rw z e
 
-  pub ret_none : {g : Held} → n ≡ 0 → g ≡ failed 7 h → g ≡ returned t n p l h
+  pub ret_none : {g : Held} → n ≡ 0 → g ≡ failed Refusal.Failed h → g ≡ returned t n p l h
   unfolding returned
   ret_none z e = rw z e
 

@@ -1,6 +1,7 @@
 -- What each rule without operands makes of the builder's state and the workspace's words, and what stands behind an operand. Definitions only.
-use Rattle.std.specs.Prelude.{Bool, true, false, cond, ◌&&◌, List, [], ◌∷◌, ℕ, zero, suc, eqb}
-use Rattle.answers.specs.Refusals as Refusal
+use Rattle.std.specs.Prelude.{Bool, true, false, cond, ◌&&◌, List, [], ◌∷◌, ℕ, zero, suc, eqb, Option, None, Some}
+use Rattle.answers.specs.declared.refusals.Refusal.{Refusal}
+use Rattle.answers.specs.declared.refusals.Refusal.TheVariants as Refusal
 use Rattle.numeric.specs.Post.{fold}
 use Rattle.ast.specs.Operators as Operator
 use Rattle.ast.specs.NameKinds as Kind
@@ -33,7 +34,7 @@ among (e ∷ l) r d = cond (eqb r e.0) e.1 (among l r d)
 
 -- a ForEach variable that is refused, and one that is interned, as a name or as a temp
 unfoldable pub no_variable : Held → EachVariable × List ℕ
-no_variable h = let g = failed Refusal.FAILED h in (record { state = g.0; index = Refused }, g.1)
+no_variable h = let g = failed Refusal.Failed h in (record { state = g.0; index = Refused }, g.1)
 
 unfoldable pub variable_of : (ℕ → EachIndex) → Found → EachVariable × List ℕ
 variable_of kind e = (record { state = e.0.state; index = kind e.0.index }, e.1)
@@ -71,7 +72,7 @@ module _ (t : List ℕ) where
   -- ---- values
 
   unfoldable pub load_context : ℕ → ℕ → Step
-  load_context p q = if_name Kind.CONTEXT p (failed Refusal.FAILED) λ n. do
+  load_context p q = if_name Kind.CONTEXT p (failed Refusal.Failed) λ n. do
     still (flagged Flag.READS_CONTEXT)
     k ← with_name n
     instr O.LOAD_CTX 0 k q
@@ -109,7 +110,7 @@ module _ (t : List ℕ) where
 
   -- behind a member's base
   unfoldable pub member_put : ℕ → NameRef → Step
-  member_put p last = if_name Kind.MEMBER p (failed Refusal.FAILED) λ n. do
+  member_put p last = if_name Kind.MEMBER p (failed Refusal.Failed) λ n. do
     k ← with_member n last
     put_post t p O.MEMBER 0 k
 
@@ -161,7 +162,7 @@ module _ (t : List ℕ) where
         still not_float_only
         still (flagged Flag.USES_MEMBERS)
         root_var e.root n p e.count q)
-      (failed Refusal.FAILED)
+      (failed Refusal.Failed)
 
   unfoldable pub store_temp : ℕ → ℕ → ℕ → Step
   store_temp n p q = if_name Kind.TEMP p (store_member n p q) λ m. do
@@ -179,12 +180,12 @@ module _ (t : List ℕ) where
     q ← with_post t a
     store_var n p q
 
-  unfoldable pub target_refusal : ℕ → ℕ
+  unfoldable pub target_refusal : ℕ → Option Refusal
   target_refusal p =
-      cond (eqb (rule p) Operator.MEMBER_ACCESSOR) Refusal.ACCEPTED
-      (cond (eqb (rule p) Operator.ENTITY_VARIABLE) Refusal.ACCEPTED
-      (cond (eqb (rule p) Operator.POINTER) Refusal.WRITE_TO_OTHER_MOB
-      (as_name Kind.TEMP (payload p) Refusal.FAILED (λ n. Refusal.ACCEPTED))))
+      cond (eqb (rule p) Operator.MEMBER_ACCESSOR) None
+      (cond (eqb (rule p) Operator.ENTITY_VARIABLE) None
+      (cond (eqb (rule p) Operator.POINTER) (Some Refusal.WriteToOtherMob)
+      (as_name Kind.TEMP (payload p) (Some Refusal.Failed) (λ n. None))))
 
   -- ---- logic
 
@@ -234,12 +235,12 @@ module _ (t : List ℕ) where
       ∷ (Operator.GEOMETRY, resource p h)
       ∷ (Operator.STRING_LITERAL, string_literal p h)
       ∷ (Operator.FLOAT, constant (float_of (payload p)) h)
-      ∷ (Operator.TEXTURE_VARIABLE, failed Refusal.USES_RESOURCES h)
-      ∷ (Operator.MATERIAL_VARIABLE, failed Refusal.USES_RESOURCES h)
-      ∷ (Operator.GEOMETRY_VARIABLE, failed Refusal.USES_RESOURCES h)
-      ∷ (Operator.EXPRESSION_ARRAY, failed Refusal.USES_ARRAYS h)
-      ∷ (Operator.ARRAY_VARIABLE, failed Refusal.USES_ARRAYS h)
+      ∷ (Operator.TEXTURE_VARIABLE, failed Refusal.UsesResources h)
+      ∷ (Operator.MATERIAL_VARIABLE, failed Refusal.UsesResources h)
+      ∷ (Operator.GEOMETRY_VARIABLE, failed Refusal.UsesResources h)
+      ∷ (Operator.EXPRESSION_ARRAY, failed Refusal.UsesArrays h)
+      ∷ (Operator.ARRAY_VARIABLE, failed Refusal.UsesArrays h)
       ∷ []
 
   unfoldable pub leaf : ℕ → Bool → ℕ → Step
-  leaf p l r h = among (leaves p l h) r (failed Refusal.FAILED h)
+  leaf p l r h = among (leaves p l h) r (failed Refusal.Failed h)

@@ -1,5 +1,6 @@
 -- The parts that rules are made of, as steps on the builder's state and the workspace's words. Definitions only.
-use Rattle.std.specs.Prelude.{Bool, true, false, cond, List, [], ◌∷◌, ℕ, ◌+◌, ◌*◌, ◌-◌, ◌%◌, ltb, set}
+use Rattle.std.specs.Prelude.{Bool, true, false, cond, List, [], ◌∷◌, ℕ, ◌+◌, ◌*◌, ◌-◌, ◌%◌, ltb, set, Option, None, Some}
+use Rattle.answers.specs.declared.refusals.Refusal.{Refusal}
 use Rattle.numeric.specs.Post.{Post, is_identity}
 use Rattle.ast.specs.Node.{scale_at, offset_at}
 use Rattle.program.specs.Opcodes as O
@@ -11,7 +12,7 @@ use Rattle.payload.specs.declared.NameRef.{NameRef}
 use Rattle.builder.specs.declared.State.{State}
 use Rattle.lowering.specs.declared.control.EachIndex.{EachIndex}
 use Rattle.lowering.specs.declared.control.EachIndex.TheVariants.{Name, Temp, Refused}
-use Rattle.builder.specs.Steps.{Held, emitted, flushed, put}
+use Rattle.builder.specs.Steps.{Held, emitted, flushed, put, failed}
 use Rattle.lowering.specs.Pools as B
 use Rattle.lowering.specs.Pools.{Found, after}
 use Rattle.builder.specs.Segments.{targeted, breaks_resolved, closed}
@@ -31,6 +32,11 @@ abbrev pub ◌>>=◌ : ((ℕ → Step) → Step) → (ℕ → Step) → Step
 -- the one step or the other
 abbrev pub either : Bool → Step → Step → Step
 either b f g h = cond b (f h) (g h)
+
+-- a refusal that is known beforehand, or the step
+abbrev pub unless_refused : Option Refusal → Step → Step
+unless_refused None f h = f h
+unless_refused (Some why) f h = failed why h
 
 -- a step beside the words
 abbrev pub still : (State → State) → Step

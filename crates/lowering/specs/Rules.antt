@@ -1,6 +1,6 @@
 -- What each rule with operands, and the node at a place of the tree image, makes of the builder's state and the workspace's words. Definitions only.
-use Rattle.std.specs.Prelude.{Bool, true, false, cond, List, [], ◌∷◌, ℕ, zero, suc, ◌-◌, eqb, ltb}
-use Rattle.answers.specs.Refusals as Refusal
+use Rattle.std.specs.Prelude.{Bool, true, false, cond, List, [], ◌∷◌, ℕ, zero, suc, ◌-◌, eqb, ltb, None}
+use Rattle.answers.specs.declared.refusals.Refusal.TheVariants as Refusal
 use Rattle.numeric.specs.Post.{fold}
 use Rattle.ast.specs.Header.{arrays_of, divisor_of, ROOT, LEVELS}
 use Rattle.ast.specs.Operators as Operator
@@ -18,7 +18,7 @@ use Rattle.lowering.specs.Pools.{Found, after, constant}
 use Rattle.builder.specs.Segments.{opened}
 use Rattle.lowering.specs.Payloads.{const_of}
 use Rattle.lowering.specs.Steps.{operand_entered, popped, loop_entered, loop_left, handler_entered, handler_left, flagged, not_float_only, queried}
-use Rattle.lowering.specs.Parts.{Step, ◌>>◌, ◌>>=◌, either, still, instr}
+use Rattle.lowering.specs.Parts.{Step, ◌>>◌, ◌>>=◌, either, unless_refused, still, instr}
 use Rattle.lowering.specs.Parts.{post_bits, with_post, put_post, post_instr, emit_jump, with_jump, place_target, resolve_breaks, loop_closed, each_closed}
 use Rattle.lowering.specs.Parts.{with_call, argument_closed}
 use Rattle.lowering.specs.Parts.{is_refused, each_next}
@@ -35,15 +35,15 @@ module _ (t : List ℕ) (E : ℕ → Bool → Step) (C : ℕ → NameRef → Boo
   array_element p l =
       either (eqb (arrays_of t) 1)
       (either (eqb (count_at t p) 1)
-      (if_name t Kind.ARRAY_VARIABLE p (failed Refusal.FAILED) λ n. do
+      (if_name t Kind.ARRAY_VARIABLE p (failed Refusal.Failed) λ n. do
         still not_float_only
         E (first_at t p) l
         array_put t p n)
-      (failed Refusal.FAILED))
-      (failed Refusal.USES_ARRAYS)
+      (failed Refusal.Failed))
+      (failed Refusal.UsesArrays)
 
   unfoldable pub chained : ℕ → NameRef → Bool → Step
-  chained p last l = either (eqb (count_at t p) 0) (failed Refusal.FAILED) do
+  chained p last l = either (eqb (count_at t p) 0) (failed Refusal.Failed) do
     C (first_at t p) last l
     member_put t p last
 
@@ -51,7 +51,7 @@ module _ (t : List ℕ) (E : ℕ → Bool → Step) (C : ℕ → NameRef → Boo
   member_read p l = do
     still not_float_only
     still (flagged Flag.USES_MEMBERS)
-    if_name t Kind.MEMBER p (failed Refusal.FAILED) λ n. chained p n l
+    if_name t Kind.MEMBER p (failed Refusal.Failed) λ n. chained p n l
 
   -- m arguments from q on; their starts go to slot and on
   unfoldable pub arguments : ℕ → Bool → ℕ → ℕ → ℕ → Step
@@ -71,7 +71,7 @@ module _ (t : List ℕ) (E : ℕ → Bool → Step) (C : ℕ → NameRef → Boo
         put_post t p O.CALL 0 k) g
 
   unfoldable pub query : ℕ → Step
-  query p = if_query t p (failed Refusal.FAILED) λ i m. called p i m
+  query p = if_query t p (failed Refusal.Failed) λ i m. called p i m
 
   unfoldable pub binary : ℕ → Bool → Step
   binary a l = do
@@ -80,7 +80,7 @@ module _ (t : List ℕ) (E : ℕ → Bool → Step) (C : ℕ → NameRef → Boo
     E (next_at t a) l
 
   unfoldable pub compare : ℕ → ℕ → Bool → Step
-  compare o p l = either (eqb (count_at t p) 0) (failed Refusal.FAILED) do
+  compare o p l = either (eqb (count_at t p) 0) (failed Refusal.Failed) do
     q ← with_post t p
     either (eqb (count_at t p) 1)
         (do
@@ -92,7 +92,7 @@ module _ (t : List ℕ) (E : ℕ → Bool → Step) (C : ℕ → NameRef → Boo
           still (popped 1)
 
   unfoldable pub equal : ℕ → ℕ → Bool → Step
-  equal o p l = either (eqb (count_at t p) 0) (failed Refusal.FAILED) do
+  equal o p l = either (eqb (count_at t p) 0) (failed Refusal.Failed) do
     q ← with_post t p
     either (eqb (count_at t p) 1)
         (do
@@ -115,12 +115,12 @@ module _ (t : List ℕ) (E : ℕ → Bool → Step) (C : ℕ → NameRef → Boo
     place_target e) h
 
   unfoldable pub logic : ℕ → ℕ → ℕ → Bool → Step
-  logic step last p l = either (eqb (count_at t p) 0) (failed Refusal.FAILED) do
+  logic step last p l = either (eqb (count_at t p) 0) (failed Refusal.Failed) do
     q ← with_post t p
     operands step last q (count_at t p - 1) (first_at t p) l
 
   unfoldable pub coalesce : ℕ → Bool → Step
-  coalesce p l = either (ltb (count_at t p) 2) (failed Refusal.FAILED) do
+  coalesce p l = either (ltb (count_at t p) 2) (failed Refusal.Failed) do
     missing ← with_jump O.HANDLER_PUSH 0 0
     still handler_entered
     E (first_at t p) l
@@ -136,7 +136,7 @@ module _ (t : List ℕ) (E : ℕ → Bool → Step) (C : ℕ → NameRef → Boo
   alternative p b l = either (ltb (count_at t p) 3) (constant 0) (E (next_at t b) l)
 
   unfoldable pub conditional : ℕ → Bool → Step
-  conditional p l = either (ltb (count_at t p) 2) (failed Refusal.FAILED) do
+  conditional p l = either (ltb (count_at t p) 2) (failed Refusal.Failed) do
     E (first_at t p) l
     falsy ← with_jump O.JUMP_IF_FALSY 0 0
     E (next_at t (first_at t p)) l
@@ -166,7 +166,7 @@ module _ (t : List ℕ) (E : ℕ → Bool → Step) (C : ℕ → NameRef → Boo
   unfoldable pub counted_loop : ℕ → Bool → Step
   counted_loop p l = do
     still (flagged Flag.HAS_LOOPS)
-    either (ltb (count_at t p) 2) (failed Refusal.FAILED) do
+    either (ltb (count_at t p) 2) (failed Refusal.Failed) do
       E (first_at t p) l
       begin ← with_jump O.LOOP_BEGIN 0 0
       still operand_entered
@@ -190,7 +190,7 @@ module _ (t : List ℕ) (E : ℕ → Bool → Step) (C : ℕ → NameRef → Boo
   for_each p l h =
       let g = still (λ s. not_float_only (flagged Flag.HAS_LOOPS s)) h in
       let v = variable t (first_at t p) g in
-      cond (ltb (count_at t p) 3) (failed Refusal.FAILED g)
+      cond (ltb (count_at t p) 3) (failed Refusal.Failed g)
       (cond (is_refused v.0.index) (v.0.state, v.1) (each p (each_next v.0.index) l (v.0.state, v.1)))
 
   -- the second child, or the node's constant
@@ -201,19 +201,17 @@ module _ (t : List ℕ) (E : ℕ → Bool → Step) (C : ℕ → NameRef → Boo
   unfoldable pub assignment : ℕ → ℕ → Bool → Step
   assignment n p l =
       let a = first_at t p in
-      either (eqb (count_at t p) 0) (failed Refusal.FAILED)
-      (either (eqb (target_refusal t a) 0)
-      (do
+      either (eqb (count_at t p) 0) (failed Refusal.Failed)
+      (unless_refused (target_refusal t a) do
         still (flagged Flag.HAS_ASSIGNMENT)
         value p a l
         store t n a p)
-      (failed (target_refusal t a)))
 
   unfoldable pub pointer : ℕ → Bool → Step
   pointer p l = do
     still not_float_only
     still (flagged Flag.USES_ARROW)
-    either (ltb (count_at t p) 2) (failed Refusal.FAILED) do
+    either (ltb (count_at t p) 2) (failed Refusal.Failed) do
       q ← with_post t p
       E (first_at t p) l
       end ← with_jump O.POINTER_ENTER 0 q
@@ -222,10 +220,10 @@ module _ (t : List ℕ) (E : ℕ → Bool → Step) (C : ℕ → NameRef → Boo
       place_target end
 
   unfoldable pub bracket : ℕ → Bool → Step
-  bracket p l = either (eqb (count_at t p) 0) (failed Refusal.FAILED) (E (first_at t p) l)
+  bracket p l = either (eqb (count_at t p) 0) (failed Refusal.Failed) (E (first_at t p) l)
 
   unfoldable pub unary : ℕ → ℕ → Bool → Step
-  unary op p l = either (eqb (count_at t p) 0) (failed Refusal.FAILED) do
+  unary op p l = either (eqb (count_at t p) 0) (failed Refusal.Failed) do
     E (first_at t p) l
     put_post t p op 0 0
 
@@ -242,7 +240,7 @@ module _ (t : List ℕ) (E : ℕ → Bool → Step) (C : ℕ → NameRef → Boo
   unfoldable pub add : ℕ → Bool → Step
   add p l =
       let a = first_at t p in
-      either (eqb (count_at t p) 0) (failed Refusal.FAILED)
+      either (eqb (count_at t p) 0) (failed Refusal.Failed)
       (either (eqb (count_at t p) 1)
       (do
         E a l
@@ -254,13 +252,13 @@ module _ (t : List ℕ) (E : ℕ → Bool → Step) (C : ℕ → NameRef → Boo
         still (popped 1))
 
   unfoldable pub mul : ℕ → Bool → Step
-  mul p l = either (ltb (count_at t p) 2) (failed Refusal.FAILED) do
+  mul p l = either (ltb (count_at t p) 2) (failed Refusal.Failed) do
     binary (first_at t p) l
     put_post t p O.MUL 0 0
     still (popped 1)
 
   unfoldable pub div : ℕ → Bool → Step
-  div p l = either (ltb (count_at t p) 2) (failed Refusal.FAILED) do
+  div p l = either (ltb (count_at t p) 2) (failed Refusal.Failed) do
     E (next_at t (first_at t p)) l
     end ← with_jump O.DIV_GUARD (bit (eqb (divisor_of t) 1)) 0
     still operand_entered
@@ -284,7 +282,7 @@ module _ (t : List ℕ) (E : ℕ → Bool → Step) (C : ℕ → NameRef → Boo
       let count = count_at t p in
       (do
         still (flagged bits)
-        if_math t p (failed Refusal.FAILED) λ f. either (eqb count 0) (failed Refusal.FAILED) (either (ltb 255 count) (failed Refusal.FAILED) do
+        if_math t p (failed Refusal.Failed) λ f. either (eqb count 0) (failed Refusal.Failed) (either (ltb 255 count) (failed Refusal.Failed) do
           host_arguments p f count (count - 1) (first_at t p) l
           still (popped (count - 1))))
 
@@ -328,18 +326,18 @@ module _ (t : List ℕ) (E : ℕ → Bool → Step) (C : ℕ → NameRef → Boo
 module _ (t : List ℕ) where
   unfoldable mutual
     pub expr : ℕ → ℕ → Bool → Step
-    expr zero p l h = failed Refusal.FAILED h
+    expr zero p l h = failed Refusal.Failed h
     expr (suc n) p l h = branch t (λ q l g. expr n q l g) (λ q x l g. chain n q x l g) (λ q l g. returned n q l g) n p l (rule t p) h
 
     pub chain : ℕ → ℕ → NameRef → Bool → Step
-    chain zero p last l h = failed Refusal.FAILED h
+    chain zero p last l h = failed Refusal.Failed h
     chain (suc n) p last l h =
         cond (is_link t p)
         (chained t (λ q l g. expr n q l g) (λ q x l g. chain n q x l g) (λ q l g. returned n q l g) p last l h)
         (branch t (λ q l g. expr n q l g) (λ q x l g. chain n q x l g) (λ q l g. returned n q l g) n p l (rule t p) h)
 
     pub returned : ℕ → ℕ → Bool → Step
-    returned zero p l h = failed Refusal.FAILED h
+    returned zero p l h = failed Refusal.Failed h
     returned (suc n) p l h = ret t (λ q l g. expr n q l g) (λ q x l g. chain n q x l g) (λ q l g. returned n q l g) p l h
 
 -- a rule over the lowerings of children of so many levels
@@ -370,7 +368,7 @@ start = record {
   depth = record { now = nothing_open; max = nothing_open };
   flags = Flag.FLOAT_ONLY;
   float_loop = true;
-  refusal = 0;
+  refusal = None;
 }
 
 -- the root, and End; a Break or Continue that no loop has resolved leads to the start

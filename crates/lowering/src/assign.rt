@@ -10,7 +10,7 @@ use crate::interning::StoreEntry;
 use crate::parts::{name_instr, post, store_instr, temp_instr};
 use crate::steps::{flag, not_float_only};
 use crate::{interning, pools, regions};
-use answers::refusals;
+use answers::refusals::Refusal;
 use ast::operators;
 use builder::State;
 use payload::Payload;
@@ -223,14 +223,14 @@ fn store_member(tree: &[u8], at: usize, ws: &mut [u32], st: State, levels: u16, 
     ensures { ◌≡◌ {A = Held} (result, ws.new) (R.store_member tree.now levels at q.0 (st, ws.old)) }
 {
     if rule_at(tree, at) != operators::MEMBER_ACCESSOR {
-        return builder::failed(ws, st, refusals::FAILED);
+        return builder::failed(ws, st, Refusal::Failed);
     }
     let e = path_end(tree, at, levels);
     if e.fine {
         let s = flag(not_float_only(st), Flags::USES_MEMBERS);
         return root_var(tree, e.root, at, ws, s, levels, e.count, q);
     }
-    builder::failed(ws, st, refusals::FAILED)
+    builder::failed(ws, st, Refusal::Failed)
 }
 
 fn store_temp(tree: &[u8], at: usize, ws: &mut [u32], st: State, levels: u16, q: PostIdx) -> State
@@ -271,23 +271,23 @@ pub(crate) fn store(
     store_var(tree, at, ws, s, levels, e.index)
 }
 
-// Why the target is refused before anything is lowered: 8 for a Pointer, 7, or 0.
-pub(crate) fn target_refusal(tree: &[u8], at: usize) -> u8
+// Why the target is refused before anything is lowered, if it is.
+pub(crate) fn target_refusal(tree: &[u8], at: usize) -> Option<Refusal>
     ensures { result ≡ R.target_refusal tree.now at }
 {
     let r = rule_at(tree, at);
     if r == operators::MEMBER_ACCESSOR {
-        return 0;
+        return None;
     }
     if r == operators::ENTITY_VARIABLE {
-        return 0;
+        return None;
     }
     if r == operators::POINTER {
-        return refusals::WRITE_TO_OTHER_MOB;
+        return Some(Refusal::WriteToOtherMob);
     }
     let p = payload::payload_at(tree, at);
     let Payload::Temp(_) = p else {
-        return refusals::FAILED;
+        return Some(Refusal::Failed);
     };
-    0
+    None
 }

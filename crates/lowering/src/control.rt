@@ -9,7 +9,7 @@ ghost use Rattle.lowering.specs.Rules as R;
 use crate::interning;
 use crate::interning::Entry;
 use crate::parts::{emit_jump, instr, place_target};
-use answers::refusals;
+use answers::refusals::Refusal;
 use builder::{State, segments};
 use payload::Payload;
 use program::{NameIdx, TempIdx, opcodes};
@@ -79,7 +79,7 @@ pub(crate) fn each_next(ws: &mut [u32], st: State, index: EachIndex) -> Entry
 fn no_variable(ws: &mut [u32], st: State) -> EachVariable
     ensures { ◌≡◌ {A = EachVariable × List ℕ} (result, ws.new) (R.no_variable (st, ws.old)) }
 {
-    let s = builder::failed(ws, st, refusals::FAILED);
+    let s = builder::failed(ws, st, Refusal::Failed);
     EachVariable {
         state: s,
         index: EachIndex::Refused,

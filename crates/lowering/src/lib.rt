@@ -23,7 +23,7 @@ ghost use Rattle.builder.specs.Steps.{Held};
 ghost use Rattle.lowering.specs.Parts.{each_next};
 ghost use Rattle.lowering.specs.Rules as R;
 
-use answers::refusals;
+use answers::refusals::Refusal;
 use ast::rules::RULES;
 use ast::{header, operators};
 use builder::{State, segments};
@@ -90,7 +90,7 @@ fn start() -> State
         },
         flags: Flags::FLOAT_ONLY,
         float_loop: true,
-        refusal: 0,
+        refusal: None,
     }
 }
 
@@ -99,11 +99,11 @@ fn leaf(tree: &[u8], at: usize, ws: &mut [u32], st: State, looping: bool, rule: 
     ensures { ◌≡◌ {A = Held} (result, ws.new) (R.leaf tree.now at looping rule (st, ws.old)) }
 {
     match rule {
-        operators::ARRAY_VARIABLE => builder::failed(ws, st, refusals::USES_ARRAYS),
-        operators::EXPRESSION_ARRAY => builder::failed(ws, st, refusals::USES_ARRAYS),
-        operators::GEOMETRY_VARIABLE => builder::failed(ws, st, refusals::USES_RESOURCES),
-        operators::MATERIAL_VARIABLE => builder::failed(ws, st, refusals::USES_RESOURCES),
-        operators::TEXTURE_VARIABLE => builder::failed(ws, st, refusals::USES_RESOURCES),
+        operators::ARRAY_VARIABLE => builder::failed(ws, st, Refusal::UsesArrays),
+        operators::EXPRESSION_ARRAY => builder::failed(ws, st, Refusal::UsesArrays),
+        operators::GEOMETRY_VARIABLE => builder::failed(ws, st, Refusal::UsesResources),
+        operators::MATERIAL_VARIABLE => builder::failed(ws, st, Refusal::UsesResources),
+        operators::TEXTURE_VARIABLE => builder::failed(ws, st, Refusal::UsesResources),
         operators::FLOAT => values::float(tree, at, ws, st),
         operators::STRING_LITERAL => values::string_literal(tree, at, ws, st),
         operators::GEOMETRY => values::resource(tree, at, ws, st),
@@ -123,7 +123,7 @@ fn leaf(tree: &[u8], at: usize, ws: &mut [u32], st: State, looping: bool, rule: 
         operators::RIGHT_PARENTHESIS => values::generic_constant(tree, at, ws, st),
         operators::CONDITIONAL_ELSE => values::generic_constant(tree, at, ws, st),
         operators::COMMA => values::generic_constant(tree, at, ws, st),
-        _ => builder::failed(ws, st, refusals::FAILED),
+        _ => builder::failed(ws, st, Refusal::Failed),
     }
 }
 
@@ -142,7 +142,7 @@ fn expr(
     ensures { ◌≡◌ {A = Held} (result, ws.new) (R.expr tree.now levels at looping (st, ws.old)) }
 {
     if levels == 0 {
-        return builder::failed(ws, st, refusals::FAILED);
+        return builder::failed(ws, st, Refusal::Failed);
     }
     let rule = rules::rule_at(tree, at, table);
     let n = levels - 1;
@@ -224,14 +224,14 @@ fn element(
     ensures { ◌≡◌ {A = Held} (result, ws.new) (R.under tree.now levels (R.array_element tree.now) at looping (st, ws.old)) }
 {
     if wire::get_u8(tree, 0, header::ARRAYS) != 1 {
-        return builder::failed(ws, st, refusals::USES_ARRAYS);
+        return builder::failed(ws, st, Refusal::UsesArrays);
     }
     if tree::count_at(tree, at) != 1 {
-        return builder::failed(ws, st, refusals::FAILED);
+        return builder::failed(ws, st, Refusal::Failed);
     }
     let p = payload::payload_at(tree, at);
     let Payload::ArrayVariable(n) = p else {
-        return builder::failed(ws, st, refusals::FAILED);
+        return builder::failed(ws, st, Refusal::Failed);
     };
     let s = not_float_only(st);
     let t = expr(
@@ -262,13 +262,13 @@ fn chain(
     ensures { ◌≡◌ {A = Held} (result, ws.new) (R.chain tree.now levels at last looping (st, ws.old)) }
 {
     if levels == 0 {
-        return builder::failed(ws, st, refusals::FAILED);
+        return builder::failed(ws, st, Refusal::Failed);
     }
     if rules::rule_at(tree, at, table) != operators::MEMBER_ACCESSOR {
         return expr(tree, at, ws, st, looping, levels, table);
     }
     if tree::count_at(tree, at) == 0 {
-        return builder::failed(ws, st, refusals::FAILED);
+        return builder::failed(ws, st, Refusal::Failed);
     }
     let s = chain(
         tree,
@@ -300,10 +300,10 @@ fn member(
     let s = flag(not_float_only(st), Flags::USES_MEMBERS);
     let p = payload::payload_at(tree, at);
     let Payload::Member(last) = p else {
-        return builder::failed(ws, s, refusals::FAILED);
+        return builder::failed(ws, s, Refusal::Failed);
     };
     if tree::count_at(tree, at) == 0 {
-        return builder::failed(ws, s, refusals::FAILED);
+        return builder::failed(ws, s, Refusal::Failed);
     }
     let t = chain(
         tree,
@@ -333,12 +333,11 @@ fn assignment(
 {
     let count = tree::count_at(tree, at);
     if count == 0 {
-        return builder::failed(ws, st, refusals::FAILED);
+        return builder::failed(ws, st, Refusal::Failed);
     }
     let target = tree::first_at(tree, at);
-    let refused = assign::target_refusal(tree, target);
-    if refused != 0 {
-        return builder::failed(ws, st, refused);
+    if let Some(why) = assign::target_refusal(tree, target) {
+        return builder::failed(ws, st, why);
     }
     let s = flag(st, Flags::HAS_ASSIGNMENT);
     let t = rhs(tree, at, target, ws, s, looping, levels, table);
@@ -412,7 +411,7 @@ fn compare(
 {
     let count = tree::count_at(tree, at);
     if count == 0 {
-        return builder::failed(ws, st, refusals::FAILED);
+        return builder::failed(ws, st, Refusal::Failed);
     }
     let e = post(tree, at, ws, st);
     let s = e.state;
@@ -443,7 +442,7 @@ fn equal(
 {
     let count = tree::count_at(tree, at);
     if count == 0 {
-        return builder::failed(ws, st, refusals::FAILED);
+        return builder::failed(ws, st, Refusal::Failed);
     }
     let e = post(tree, at, ws, st);
     let s = e.state;
@@ -476,7 +475,7 @@ fn logic(
 {
     let count = tree::count_at(tree, at);
     if count == 0 {
-        return builder::failed(ws, st, refusals::FAILED);
+        return builder::failed(ws, st, Refusal::Failed);
     }
     let e = post(tree, at, ws, st);
     let s = e.state;
@@ -554,7 +553,7 @@ fn par(
     ensures { ◌≡◌ {A = Held} (result, ws.new) (R.under tree.now levels (R.bracket tree.now) at looping (st, ws.old)) }
 {
     if tree::count_at(tree, at) == 0 {
-        return builder::failed(ws, st, refusals::FAILED);
+        return builder::failed(ws, st, Refusal::Failed);
     }
     expr(
         tree,
@@ -582,7 +581,7 @@ fn unary(
     ensures { ◌≡◌ {A = Held} (result, ws.new) (R.under tree.now levels (R.unary tree.now) op at looping (st, ws.old)) }
 {
     if tree::count_at(tree, at) == 0 {
-        return builder::failed(ws, st, refusals::FAILED);
+        return builder::failed(ws, st, Refusal::Failed);
     }
     let s = expr(
         tree,
@@ -612,7 +611,7 @@ fn add(
 {
     let count = tree::count_at(tree, at);
     if count == 0 {
-        return builder::failed(ws, st, refusals::FAILED);
+        return builder::failed(ws, st, Refusal::Failed);
     }
     let first = tree::first_at(tree, at);
     let s = expr(tree, first, ws, st, looping, levels, table);
@@ -677,7 +676,7 @@ fn mul(
     ensures { ◌≡◌ {A = Held} (result, ws.new) (R.under tree.now levels (R.mul tree.now) at looping (st, ws.old)) }
 {
     if tree::count_at(tree, at) < 2 {
-        return builder::failed(ws, st, refusals::FAILED);
+        return builder::failed(ws, st, Refusal::Failed);
     }
     let s = binary(
         tree,
@@ -716,7 +715,7 @@ fn div(
     ensures { ◌≡◌ {A = Held} (result, ws.new) (R.under tree.now levels (R.div tree.now) at looping (st, ws.old)) }
 {
     if tree::count_at(tree, at) < 2 {
-        return builder::failed(ws, st, refusals::FAILED);
+        return builder::failed(ws, st, Refusal::Failed);
     }
     let a = tree::first_at(tree, at);
     let s = expr(tree, tree::next_at(tree, a), ws, st, looping, levels, table);
@@ -747,14 +746,14 @@ fn host_math(
     let s = flag(st, bits);
     let p = payload::payload_at(tree, at);
     let Payload::HostMath(f) = p else {
-        return builder::failed(ws, s, refusals::FAILED);
+        return builder::failed(ws, s, Refusal::Failed);
     };
     let count = tree::count_at(tree, at);
     if count == 0 {
-        return builder::failed(ws, s, refusals::FAILED);
+        return builder::failed(ws, s, Refusal::Failed);
     }
     if count > 255 {
-        return builder::failed(ws, s, refusals::FAILED);
+        return builder::failed(ws, s, Refusal::Failed);
     }
     let t = host(
         tree,
@@ -819,7 +818,7 @@ fn pointer(
 {
     let s = flag(not_float_only(st), Flags::USES_ARROW);
     if tree::count_at(tree, at) < 2 {
-        return builder::failed(ws, s, refusals::FAILED);
+        return builder::failed(ws, s, Refusal::Failed);
     }
     let p = post(tree, at, ws, s);
     let x = p.state;
@@ -840,7 +839,7 @@ fn query(tree: &[u8], at: usize, ws: &mut [u32], st: State, levels: u16, table: 
 {
     let p = payload::payload_at(tree, at);
     let Payload::Query(q) = p else {
-        return builder::failed(ws, st, refusals::FAILED);
+        return builder::failed(ws, st, Refusal::Failed);
     };
     let count = tree::count_at(tree, at);
     let s = steps::query_flags(st, count == 0);
@@ -908,7 +907,7 @@ fn coalesce(
     ensures { ◌≡◌ {A = Held} (result, ws.new) (R.under tree.now levels (R.coalesce tree.now) at looping (st, ws.old)) }
 {
     if tree::count_at(tree, at) < 2 {
-        return builder::failed(ws, st, refusals::FAILED);
+        return builder::failed(ws, st, Refusal::Failed);
     }
     let a = tree::first_at(tree, at);
     let e = emit_jump(ws, st, opcodes::HANDLER_PUSH, 0, 0);
@@ -968,7 +967,7 @@ fn conditional(
     ensures { ◌≡◌ {A = Held} (result, ws.new) (R.under tree.now levels (R.conditional tree.now) at looping (st, ws.old)) }
 {
     if tree::count_at(tree, at) < 2 {
-        return builder::failed(ws, st, refusals::FAILED);
+        return builder::failed(ws, st, Refusal::Failed);
     }
     let a = tree::first_at(tree, at);
     let b = tree::next_at(tree, a);
@@ -1044,7 +1043,7 @@ fn ret(
     ensures { ◌≡◌ {A = Held} (result, ws.new) (R.returned tree.now levels at looping (st, ws.old)) }
 {
     if levels == 0 {
-        return builder::failed(ws, st, refusals::FAILED);
+        return builder::failed(ws, st, Refusal::Failed);
     }
     if tree::count_at(tree, at) == 0 {
         let s = interning::constant(ws, st, 0);
@@ -1078,7 +1077,7 @@ fn repeat(
 {
     let s = flag(st, Flags::HAS_LOOPS);
     if tree::count_at(tree, at) < 2 {
-        return builder::failed(ws, s, refusals::FAILED);
+        return builder::failed(ws, s, Refusal::Failed);
     }
     let a = tree::first_at(tree, at);
     let t = expr(tree, a, ws, s, looping, levels, table);
@@ -1106,7 +1105,7 @@ fn for_each(
 {
     let s = not_float_only(flag(st, Flags::HAS_LOOPS));
     if tree::count_at(tree, at) < 3 {
-        return builder::failed(ws, s, refusals::FAILED);
+        return builder::failed(ws, s, Refusal::Failed);
     }
     let v = control::variable(tree, tree::first_at(tree, at), ws, s);
     let t = v.state;

@@ -12,7 +12,7 @@ ghost use Rattle.lowering.specs.Rules as R;
 use crate::interning;
 use crate::parts::{hash_instr, member_put_post, name_instr, name_put_post, post, temp_instr};
 use crate::steps::{flag, not_float_only};
-use answers::refusals;
+use answers::refusals::Refusal;
 use builder::State;
 use numeric::PostOp;
 use payload::{NameRef, Payload};
@@ -116,7 +116,7 @@ fn load_context(tree: &[u8], at: usize, ws: &mut [u32], st: State, q: PostIdx) -
 {
     let p = payload::payload_at(tree, at);
     let Payload::Context(n) = p else {
-        return builder::failed(ws, st, refusals::FAILED);
+        return builder::failed(ws, st, Refusal::Failed);
     };
     let s = flag(st, Flags::READS_CONTEXT);
     let e = interning::name(ws, s, n);
@@ -163,7 +163,7 @@ pub(crate) fn member_put(tree: &[u8], at: usize, ws: &mut [u32], st: State, last
 {
     let p = payload::payload_at(tree, at);
     let Payload::Member(n) = p else {
-        return builder::failed(ws, st, refusals::FAILED);
+        return builder::failed(ws, st, Refusal::Failed);
     };
     let e = interning::member(ws, st, n, last);
     member_put_post(tree, at, ws, e, opcodes::MEMBER)

@@ -185,15 +185,15 @@ member-returns t c =
 pub assignment-returns-then-count-eq0 : goal.assignment-returns-then-count-eq0
 assignment-returns-then-count-eq0 t c = assignment_none _ _ _ _ _ _ _ _ c.count_at-count.ensures c.if-count-eq0.true c.failed.ensures
 
-pub assignment-returns-then-refused-ne0 : goal.assignment-returns-then-refused-ne0
-assignment-returns-then-refused-ne0 t c =
+pub assignment-returns-in-Some : goal.assignment-returns-in-Some
+assignment-returns-in-Some t c =
     assignment_refused _ _ _ _ _ _ _ _ c.count_at-count.ensures c.if-count-eq0.false c.first_at-target.ensures.0
-    c.target_refusal-refused.ensures c.if-refused-ne0.true c.failed-then-refused-ne0.ensures
+    c.in-Some.ensures c.failed-in-Some.ensures
 
 pub assignment-returns : goal.assignment-returns
 assignment-returns t c =
-    assignment_all _ _ _ _ _ _ _ _ c.count_at-count.ensures c.if-count-eq0.false c.first_at-target.ensures.0 c.target_refusal-refused.ensures
-    c.if-refused-ne0.false c.flag-s.ensures c.rhs-t.ensures c.store.ensures
+    assignment_all _ _ _ _ _ _ _ _ c.count_at-count.ensures c.if-count-eq0.false c.first_at-target.ensures.0 c.in_default.ensures
+    c.flag-s.ensures c.rhs-t.ensures c.store.ensures
 
 pub rhs-returns-then-count_at-eq1 : goal.rhs-returns-then-count_at-eq1
 rhs-returns-then-count_at-eq1 t c =

@@ -1,5 +1,8 @@
 use mathlib.Core.Path.{sym, ◌∙◌}
 use borrow.Author.Tests.{eq-eqb, ne_eqb}
+use Rattle.std.proofs.Common.{Option, None, Some}
+use Rattle.answers.specs.declared.refusals.Refusal.{Refusal}
+use Rattle.answers.specs.declared.refusals.Refusal.TheVariants.{Failed}
 use Rattle.lowering.specs.Rules.{target_refusal}
 use Rattle.lowering.proofs.Choice.{chosen_yes, chosen_no}
 use Rattle.lowering.proofs.Others.{is_temp, not_temp}
@@ -23,4 +26,4 @@ returns-in_default c = not_temp _ _ c.payload_at-p.ensures c.in_default.not-Temp
 
 pub returns : goal.returns
 unfolding target_refusal
-returns c = is_temp _ 7 (λ n. 0) c.payload_at-p.ensures c.in-Temp.is ∙ sym (chosen_no _ _ _ (ne_eqb _ _ (λ e. c.if-r-eq-MEMBER_ACCESSOR.false (c.rule_at-r.ensures ∙ e))) ∙ chosen_no _ _ _ (ne_eqb _ _ (λ e. c.if-r-eq-ENTITY_VARIABLE.false (c.rule_at-r.ensures ∙ e))) ∙ chosen_no _ _ _ (ne_eqb _ _ (λ e. c.if-r-eq-POINTER.false (c.rule_at-r.ensures ∙ e))))
+returns c = is_temp {X = Option Refusal} _ (Some Failed) (λ n. None) c.payload_at-p.ensures c.in-Temp.is ∙ sym (chosen_no _ _ _ (ne_eqb _ _ (λ e. c.if-r-eq-MEMBER_ACCESSOR.false (c.rule_at-r.ensures ∙ e))) ∙ chosen_no _ _ _ (ne_eqb _ _ (λ e. c.if-r-eq-ENTITY_VARIABLE.false (c.rule_at-r.ensures ∙ e))) ∙ chosen_no _ _ _ (ne_eqb _ _ (λ e. c.if-r-eq-POINTER.false (c.rule_at-r.ensures ∙ e))))
