@@ -6,10 +6,12 @@ use Prim.Native.Nat.{ℕ, ◌+◌, ◌%◌, ◌≤◌, ◌<◌}
 use native.Mathlib.Omega.{arith}
 use lib.ListN.{length, length-append, drop}
 use borrow.Author.Tests.{le-leb, lt-leb}
+use Rattle.std.proofs.Common.{Result, Ok, Err}
+use Rattle.answers.specs.declared.refusals.Refusal.{Refusal}
+use Rattle.answers.specs.declared.refusals.Refusal.TheVariants.{SmallOutput}
 use Rattle.wire.specs.Bytes.{be}
 use Rattle.wire.proofs.Numbers.{be_length}
 use Rattle.card.specs.declared.Sections.{Sections}
-use Rattle.card.specs.declared.Answer.{Answer}
 use Rattle.card.specs.Written.{Wrote}
 use Rattle.card.specs.Image.{body_of, image_of, laid, answer_of}
 use Rattle.card.proofs.Join.{whole, long, being}
@@ -30,15 +32,16 @@ pub placed : (img s : List ℕ) → length img ≤ length s → img ++ drop (len
 unfolding laid
 placed img s h = sym (ap (λ (b : Bool). cond b (img ++ drop (length img) s) s) (le-leb (length img) (length s) h))
 
-pub nine : (img s : List ℕ) → length s < length img → record { number = 9; length = 0 } ≡ answer_of img s
+pub nine : (img s : List ℕ) → length s < length img → Err SmallOutput ≡ answer_of img s
 unfolding answer_of
-nine img s h = sym (ap (λ (b : Bool). cond {A = Answer} b (record { number = 0; length = length img }) (record { number = 9; length = 0 })) (lt-leb (length img) (length s) h))
+nine img s h = sym (ap (λ (b : Bool). cond {A = Result ℕ Refusal} b (Ok (length img)) (Err SmallOutput)) (lt-leb (length img) (length s) h))
 
-pub good : (img s : List ℕ) (n : ℕ) → n ≡ length img → length img ≤ length s → record { number = 0; length = n } ≡ answer_of img s
+pub good : (img s : List ℕ) (n : ℕ) → n ≡ length img → length img ≤ length s → Ok n ≡ answer_of img s
 unfolding answer_of
 good img s n e h =
-    ap (λ (k : ℕ). record { number = 0; length = k }) e
-    ∙ sym (ap (λ (b : Bool). cond {A = Answer} b (record { number = 0; length = length img }) (record { number = 9; length = 0 })) (le-leb (length img) (length s) h))
+    let f : ℕ → Result ℕ Refusal = λ k. Ok k in
+    ap f e
+    ∙ sym (ap (λ (b : Bool). cond {A = Result ℕ Refusal} b (Ok (length img)) (Err SmallOutput)) (le-leb (length img) (length s) h))
 
 same : (tree ws : List ℕ) (c : Sections) {n : ℕ} → n ≡ length (body_of tree ws c) → be 1 1 [] ++ be 4 (n % 4294967296) [] ++ body_of tree ws c ≡ image_of tree ws c
 unfolding image_of

@@ -1,6 +1,7 @@
 -- The program image that a workspace, its sections' counts and a tree image stand for, and what is answered and written. Definitions only.
-use Rattle.std.specs.Prelude.{List, [], ◌∷◌, ◌++◌, cond, ℕ, ◌+◌, ◌*◌, ◌/◌, ◌%◌, length, get_or, drop, leb}
-use Rattle.answers.specs.Refusals as Refusal
+use Rattle.std.specs.Prelude.{List, [], ◌∷◌, ◌++◌, cond, ℕ, ◌+◌, ◌*◌, ◌/◌, ◌%◌, length, get_or, drop, leb, Result, Ok, Err}
+use Rattle.answers.specs.declared.refusals.Refusal.{Refusal}
+use Rattle.answers.specs.declared.refusals.Refusal.TheVariants.{SmallOutput}
 use Rattle.wire.specs.Bytes.{be8, be}
 use Rattle.numeric.specs.Post.{identity}
 use Rattle.program.specs.Image.{bit}
@@ -9,7 +10,6 @@ use Rattle.workspace.specs.Layout.{OPEN, FINISHED, CONSTS, POSTS, HASHES, NAMES,
 use Rattle.workspace.specs.Words.{plus}
 use Rattle.card.specs.Written.{cat, joined}
 use Rattle.card.specs.declared.Sections.{Sections}
-use Rattle.card.specs.declared.Answer.{Answer}
 
 -- a word from a place on, base added; a temp; a text's byte
 abbrev pub word_entry : List ℕ → ℕ → ℕ → ℕ → List ℕ
@@ -139,8 +139,5 @@ unfoldable pub laid : List ℕ → List ℕ → List ℕ
 laid img s = cond (leb (length img) (length s)) (img ++ drop (length img) s) s
 
 -- 01, Nine questions, 9: "Is the output at least as long as the program image? No: 9."
-unfoldable pub answer_of : List ℕ → List ℕ → Answer
-answer_of img s =
-    cond (leb (length img) (length s))
-    (record { number = Refusal.ACCEPTED; length = length img })
-    (record { number = Refusal.SMALL_OUTPUT; length = 0 })
+unfoldable pub answer_of : List ℕ → List ℕ → Result ℕ Refusal
+answer_of img s = cond (leb (length img) (length s)) (Ok (length img)) (Err SmallOutput)

@@ -9,7 +9,7 @@ mod measure;
 ghost use Rattle.std.specs.Prelude.{◌≡◌, length};
 ghost use Rattle.card.specs.Image.{image_of, laid, answer_of};
 
-use answers::refusals;
+use answers::refusals::Refusal;
 use body::put_body;
 use fields::{put_byte, put_word};
 use measure::sums_of;
@@ -32,13 +32,6 @@ pub struct Sections {
     pub handlers: u16,
     pub flags: u16,
     pub float_loop: bool,
-}
-
-// A refusal's number and 0, or 0 and the image's length.
-#[derive(Drop)]
-pub struct Answer {
-    pub number: u8,
-    pub length: usize,
 }
 
 // The image's first byte, the bytes up to the first section, and those of the closing fields.
@@ -65,8 +58,8 @@ fn write_image(tree: &[u8], ws: &[u32], c: Sections, out: &mut [u8]) -> usize
     n
 }
 
-// The same, and the answer: 9 where the image has no place.
-pub fn finish(tree: &[u8], ws: &[u32], c: Sections, out: &mut [u8]) -> Answer
+// The same; its length, or the refusal where the image has no place.
+pub fn finish(tree: &[u8], ws: &[u32], c: Sections, out: &mut [u8]) -> Result<usize, Refusal>
     ensures { (result ≡ answer_of (image_of tree.now ws.now c) out.old)
         × (out.new ≡ laid (image_of tree.now ws.now c) out.old) }
 {
@@ -74,13 +67,7 @@ pub fn finish(tree: &[u8], ws: &[u32], c: Sections, out: &mut [u8]) -> Answer
     let n = write_image(tree, ws, c, out);
     let long = n > room;
     if long {
-        return Answer {
-            number: refusals::SMALL_OUTPUT,
-            length: 0,
-        };
+        return Err(Refusal::SmallOutput);
     }
-    Answer {
-        number: refusals::ACCEPTED,
-        length: n,
-    }
+    Ok(n)
 }

@@ -17,15 +17,13 @@ mod values;
 ghost use Rattle.std.specs.Prelude.{◌≡◌, List, false, ◌-◌, ◌≤◌, eqb};
 ghost use Rattle.wire.specs.Bytes.{be8};
 ghost use Rattle.ast.specs.Node.{first_at, count_at};
-ghost use Rattle.ast.specs.Rules.{HasRules};
 ghost use Rattle.program.specs.Image.{bit};
 ghost use Rattle.builder.specs.Steps.{Held};
 ghost use Rattle.lowering.specs.Parts.{each_next};
 ghost use Rattle.lowering.specs.Rules as R;
 
 use answers::refusals::Refusal;
-use ast::rules::RULES;
-use ast::{header, operators};
+use ast::{RuleTable, header, operators};
 use builder::{State, segments};
 use code::segment;
 use control::EachIndex;
@@ -40,7 +38,7 @@ use workspace::counts::one_more;
 pub fn lower(tree: &[u8], ws: &mut [u32]) -> State
     ensures { ◌≡◌ {A = Held} (result, ws.new) (R.lowered tree.now ws.old) }
 {
-    let table = RULES;
+    let table = RuleTable::new();
     let s = expr(
         tree,
         header::ROOT,
@@ -136,9 +134,8 @@ fn expr(
     st: State,
     looping: bool,
     levels: u16,
-    table: &[u8; 256],
+    table: &RuleTable,
 ) -> State
-    requires { HasRules table.now }
     ensures { ◌≡◌ {A = Held} (result, ws.new) (R.expr tree.now levels at looping (st, ws.old)) }
 {
     if levels == 0 {
@@ -218,9 +215,8 @@ fn element(
     st: State,
     looping: bool,
     levels: u16,
-    table: &[u8; 256],
+    table: &RuleTable,
 ) -> State
-    requires { HasRules table.now }
     ensures { ◌≡◌ {A = Held} (result, ws.new) (R.under tree.now levels (R.array_element tree.now) at looping (st, ws.old)) }
 {
     if wire::get_u8(tree, 0, header::ARRAYS) != 1 {
@@ -256,9 +252,8 @@ fn chain(
     last: NameRef,
     looping: bool,
     levels: u16,
-    table: &[u8; 256],
+    table: &RuleTable,
 ) -> State
-    requires { HasRules table.now }
     ensures { ◌≡◌ {A = Held} (result, ws.new) (R.chain tree.now levels at last looping (st, ws.old)) }
 {
     if levels == 0 {
@@ -292,9 +287,8 @@ fn member(
     st: State,
     looping: bool,
     levels: u16,
-    table: &[u8; 256],
+    table: &RuleTable,
 ) -> State
-    requires { HasRules table.now }
     ensures { ◌≡◌ {A = Held} (result, ws.new) (R.under tree.now levels (R.member_read tree.now) at looping (st, ws.old)) }
 {
     let s = flag(not_float_only(st), Flags::USES_MEMBERS);
@@ -326,9 +320,8 @@ fn assignment(
     st: State,
     looping: bool,
     levels: u16,
-    table: &[u8; 256],
+    table: &RuleTable,
 ) -> State
-    requires { HasRules table.now }
     ensures { ◌≡◌ {A = Held} (result, ws.new) (R.under tree.now levels (R.assignment tree.now) levels at looping (st, ws.old)) }
 {
     let count = tree::count_at(tree, at);
@@ -354,9 +347,8 @@ fn rhs(
     st: State,
     looping: bool,
     levels: u16,
-    table: &[u8; 256],
+    table: &RuleTable,
 ) -> State
-    requires { HasRules table.now }
     ensures { ◌≡◌ {A = Held} (result, ws.new) (R.under tree.now levels (R.value tree.now) at first looping (st, ws.old)) }
 {
     if tree::count_at(tree, at) == 1 {
@@ -385,9 +377,8 @@ fn binary(
     st: State,
     looping: bool,
     levels: u16,
-    table: &[u8; 256],
+    table: &RuleTable,
 ) -> State
-    requires { HasRules table.now }
     ensures { ◌≡◌ {A = Held} (result, ws.new) (R.under tree.now levels (R.binary tree.now) a looping (st, ws.old)) }
 {
     let s = expr(tree, a, ws, st, looping, levels, table);
@@ -404,9 +395,8 @@ fn compare(
     o: u8,
     looping: bool,
     levels: u16,
-    table: &[u8; 256],
+    table: &RuleTable,
 ) -> State
-    requires { HasRules table.now }
     ensures { ◌≡◌ {A = Held} (result, ws.new) (R.under tree.now levels (R.compare tree.now) o at looping (st, ws.old)) }
 {
     let count = tree::count_at(tree, at);
@@ -435,9 +425,8 @@ fn equal(
     o: u8,
     looping: bool,
     levels: u16,
-    table: &[u8; 256],
+    table: &RuleTable,
 ) -> State
-    requires { HasRules table.now }
     ensures { ◌≡◌ {A = Held} (result, ws.new) (R.under tree.now levels (R.equal tree.now) o at looping (st, ws.old)) }
 {
     let count = tree::count_at(tree, at);
@@ -468,9 +457,8 @@ fn logic(
     last: u8,
     looping: bool,
     levels: u16,
-    table: &[u8; 256],
+    table: &RuleTable,
 ) -> State
-    requires { HasRules table.now }
     ensures { ◌≡◌ {A = Held} (result, ws.new) (R.under tree.now levels (R.logic tree.now) step last at looping (st, ws.old)) }
 {
     let count = tree::count_at(tree, at);
@@ -508,9 +496,8 @@ fn ops(
     m: u16,
     looping: bool,
     levels: u16,
-    table: &[u8; 256],
+    table: &RuleTable,
 ) -> State
-    requires { HasRules table.now }
     ensures { ◌≡◌ {A = Held} (result, ws.new) (R.under tree.now levels (R.operands tree.now) step last q.0 m a looping (st, ws.old)) }
 {
     let s = expr(tree, a, ws, st, looping, levels, table);
@@ -547,9 +534,8 @@ fn par(
     st: State,
     looping: bool,
     levels: u16,
-    table: &[u8; 256],
+    table: &RuleTable,
 ) -> State
-    requires { HasRules table.now }
     ensures { ◌≡◌ {A = Held} (result, ws.new) (R.under tree.now levels (R.bracket tree.now) at looping (st, ws.old)) }
 {
     if tree::count_at(tree, at) == 0 {
@@ -575,9 +561,8 @@ fn unary(
     op: u8,
     looping: bool,
     levels: u16,
-    table: &[u8; 256],
+    table: &RuleTable,
 ) -> State
-    requires { HasRules table.now }
     ensures { ◌≡◌ {A = Held} (result, ws.new) (R.under tree.now levels (R.unary tree.now) op at looping (st, ws.old)) }
 {
     if tree::count_at(tree, at) == 0 {
@@ -604,9 +589,8 @@ fn add(
     st: State,
     looping: bool,
     levels: u16,
-    table: &[u8; 256],
+    table: &RuleTable,
 ) -> State
-    requires { HasRules table.now }
     ensures { ◌≡◌ {A = Held} (result, ws.new) (R.under tree.now levels (R.add tree.now) at looping (st, ws.old)) }
 {
     let count = tree::count_at(tree, at);
@@ -644,9 +628,8 @@ fn terms(
     m: u16,
     looping: bool,
     levels: u16,
-    table: &[u8; 256],
+    table: &RuleTable,
 ) -> State
-    requires { HasRules table.now }
     ensures { ◌≡◌ {A = Held} (result, ws.new) (R.under tree.now levels (R.terms tree.now) at m a looping (st, ws.old)) }
 {
     let mut s = st;
@@ -670,9 +653,8 @@ fn mul(
     st: State,
     looping: bool,
     levels: u16,
-    table: &[u8; 256],
+    table: &RuleTable,
 ) -> State
-    requires { HasRules table.now }
     ensures { ◌≡◌ {A = Held} (result, ws.new) (R.under tree.now levels (R.mul tree.now) at looping (st, ws.old)) }
 {
     if tree::count_at(tree, at) < 2 {
@@ -709,9 +691,8 @@ fn div(
     st: State,
     looping: bool,
     levels: u16,
-    table: &[u8; 256],
+    table: &RuleTable,
 ) -> State
-    requires { HasRules table.now }
     ensures { ◌≡◌ {A = Held} (result, ws.new) (R.under tree.now levels (R.div tree.now) at looping (st, ws.old)) }
 {
     if tree::count_at(tree, at) < 2 {
@@ -738,9 +719,8 @@ fn host_math(
     bits: u16,
     looping: bool,
     levels: u16,
-    table: &[u8; 256],
+    table: &RuleTable,
 ) -> State
-    requires { HasRules table.now }
     ensures { ◌≡◌ {A = Held} (result, ws.new) (R.under tree.now levels (R.host_math tree.now) bits at looping (st, ws.old)) }
 {
     let s = flag(st, bits);
@@ -782,9 +762,8 @@ fn host(
     m: u16,
     looping: bool,
     levels: u16,
-    table: &[u8; 256],
+    table: &RuleTable,
 ) -> State
-    requires { HasRules table.now }
     ensures { ◌≡◌ {A = Held} (result, ws.new) (R.under tree.now levels (R.host_arguments tree.now) at f k m (first_at tree.now at) looping (st, ws.old)) }
 {
     let mut s = st;
@@ -811,9 +790,8 @@ fn pointer(
     st: State,
     looping: bool,
     levels: u16,
-    table: &[u8; 256],
+    table: &RuleTable,
 ) -> State
-    requires { HasRules table.now }
     ensures { ◌≡◌ {A = Held} (result, ws.new) (R.under tree.now levels (R.pointer tree.now) at looping (st, ws.old)) }
 {
     let s = flag(not_float_only(st), Flags::USES_ARROW);
@@ -833,8 +811,7 @@ fn pointer(
 }
 
 #[cycle(expression)]
-fn query(tree: &[u8], at: usize, ws: &mut [u32], st: State, levels: u16, table: &[u8; 256]) -> State
-    requires { HasRules table.now }
+fn query(tree: &[u8], at: usize, ws: &mut [u32], st: State, levels: u16, table: &RuleTable) -> State
     ensures { ◌≡◌ {A = Held} (result, ws.new) (R.under tree.now levels (R.query tree.now) at (st, ws.old)) }
 {
     let p = payload::payload_at(tree, at);
@@ -869,9 +846,8 @@ fn segs(
     m: u16,
     first: u16,
     levels: u16,
-    table: &[u8; 256],
+    table: &RuleTable,
 ) -> State
-    requires { HasRules table.now }
     ensures { ◌≡◌ {A = Held} (result, ws.new) (R.under tree.now levels (R.arguments tree.now) st.base st.waiting m a first (st, ws.old)) }
 {
     let base = st.base;
@@ -901,9 +877,8 @@ fn coalesce(
     st: State,
     looping: bool,
     levels: u16,
-    table: &[u8; 256],
+    table: &RuleTable,
 ) -> State
-    requires { HasRules table.now }
     ensures { ◌≡◌ {A = Held} (result, ws.new) (R.under tree.now levels (R.coalesce tree.now) at looping (st, ws.old)) }
 {
     if tree::count_at(tree, at) < 2 {
@@ -933,9 +908,8 @@ fn alt(
     st: State,
     looping: bool,
     levels: u16,
-    table: &[u8; 256],
+    table: &RuleTable,
 ) -> State
-    requires { HasRules table.now }
     ensures { ◌≡◌ {A = Held} (result, ws.new) (R.under tree.now levels (R.alternative tree.now) at second looping (st, ws.old)) }
 {
     if tree::count_at(tree, at) < 3 {
@@ -961,9 +935,8 @@ fn conditional(
     st: State,
     looping: bool,
     levels: u16,
-    table: &[u8; 256],
+    table: &RuleTable,
 ) -> State
-    requires { HasRules table.now }
     ensures { ◌≡◌ {A = Held} (result, ws.new) (R.under tree.now levels (R.conditional tree.now) at looping (st, ws.old)) }
 {
     if tree::count_at(tree, at) < 2 {
@@ -992,9 +965,8 @@ fn statements(
     st: State,
     looping: bool,
     levels: u16,
-    table: &[u8; 256],
+    table: &RuleTable,
 ) -> State
-    requires { HasRules table.now }
     ensures { ◌≡◌ {A = Held} (result, ws.new) (R.under tree.now levels (R.statements tree.now) at looping (st, ws.old)) }
 {
     let mut s = st;
@@ -1017,9 +989,8 @@ fn item(
     st: State,
     looping: bool,
     levels: u16,
-    table: &[u8; 256],
+    table: &RuleTable,
 ) -> State
-    requires { HasRules table.now }
     ensures { ◌≡◌ {A = Held} (result, ws.new) (R.under tree.now levels (R.statement tree.now) at looping (st, ws.old)) }
 {
     if rules::rule_at(tree, at, table) == operators::RETURN {
@@ -1037,9 +1008,8 @@ fn ret(
     st: State,
     looping: bool,
     levels: u16,
-    table: &[u8; 256],
+    table: &RuleTable,
 ) -> State
-    requires { HasRules table.now }
     ensures { ◌≡◌ {A = Held} (result, ws.new) (R.returned tree.now levels at looping (st, ws.old)) }
 {
     if levels == 0 {
@@ -1070,9 +1040,8 @@ fn repeat(
     st: State,
     looping: bool,
     levels: u16,
-    table: &[u8; 256],
+    table: &RuleTable,
 ) -> State
-    requires { HasRules table.now }
     ensures { ◌≡◌ {A = Held} (result, ws.new) (R.under tree.now levels (R.counted_loop tree.now) at looping (st, ws.old)) }
 {
     let s = flag(st, Flags::HAS_LOOPS);
@@ -1098,9 +1067,8 @@ fn for_each(
     st: State,
     looping: bool,
     levels: u16,
-    table: &[u8; 256],
+    table: &RuleTable,
 ) -> State
-    requires { HasRules table.now }
     ensures { ◌≡◌ {A = Held} (result, ws.new) (R.under tree.now levels (R.for_each tree.now) at looping (st, ws.old)) }
 {
     let s = not_float_only(flag(st, Flags::HAS_LOOPS));
@@ -1126,9 +1094,8 @@ fn each(
     k: EachIndex,
     looping: bool,
     levels: u16,
-    table: &[u8; 256],
+    table: &RuleTable,
 ) -> State
-    requires { HasRules table.now }
     ensures { ◌≡◌ {A = Held} (result, ws.new) (R.under tree.now levels (R.each tree.now) at (each_next k) looping (st, ws.old)) }
 {
     let b = tree::next_at(tree, tree::first_at(tree, at));

@@ -1,10 +1,5 @@
-use Rattle.ast.proofs.WholeTable.{rules, rule_at_lem}
 use Rattle.lowering.proofs.Levels.{lowered_all}
 use Rattle.lowering.proofs.lower.Goals as goal
-
-pub expr-s-requires : goal.expr-s-requires
-unfolding rules
-expr-s-requires c = rule_at_lem
 
 pub returns : goal.returns
 returns c = lowered_all _ _ c.start.ensures c.expr-s.ensures c.instr-e.ensures c.resolve_breaks.ensures
