@@ -1,4 +1,8 @@
 -- Control and assignment: each rule is what its definition says. Assumes nothing.
+use Rattle.std.proofs.Common.{Option, None, Some}
+use Rattle.answers.specs.Refusals.{number_of_first}
+use Rattle.answers.specs.declared.refusals.Refusal.{Refusal}
+use Rattle.answers.specs.declared.refusals.Refusal.TheVariants.{SmallWorkspace, NoTreeImage, Damaged, TooDeep, UsesArrays, UsesResources, Failed, WriteToOtherMob, SmallOutput}
 use mathlib.Core.Path.{◌≡◌, refl, sym, subst}
 use mathlib.Core.Bool.{Bool, true, false, cond}
 use mathlib.Core.List.{List, [], ◌∷◌}
@@ -102,12 +106,12 @@ module _ (tree : List ℕ) (E : ℕ → Bool → Step) (C : ℕ → NameRef → 
   module _ (p : ℕ) (xs : List Lowerings) (k : Children tree E C Z xs (count_at tree p) (first_at tree p)) {c : Counts} (l : Bool) where
     pub coalesce_does : Does tree (P.two xs (failing 7) λ a b. fork N.handler_push N.handler_pop handler+ (a.expr l) (b.expr l) ⨾ post_instruction (L.post_bits tree p)) c (R.coalesce tree E C Z p l)
     unfolding R.coalesce
-    coalesce_does = two_rel tree E C Z c (failing 7) (failing_does 7) (λ a b. fork N.handler_push N.handler_pop handler+ (a.expr l) (b.expr l) ⨾ post_instruction (L.post_bits tree p)) xs (count_at tree p) (first_at tree p) k
+    coalesce_does = two_rel tree E C Z c (failing 7) (failing_does Failed) (λ a b. fork N.handler_push N.handler_pop handler+ (a.expr l) (b.expr l) ⨾ post_instruction (L.post_bits tree p)) xs (count_at tree p) (first_at tree p) k
         (λ a b ca cb. thens (fork_does N.handler_push N.handler_pop handler+ push_leads pop_leads handler_move (ca.expr_is l (handler+ c)) handler_left_lem (cb.expr_is l c)) (post_behind p))
 
     pub conditional_does : Does tree (P.some xs (failing 7) λ a ys. P.some ys (failing 7) λ b zs. a.expr l ⨾ fork (N.guard N.jump_if_falsy) N.jump same (b.expr l) (P.one zs (constant 0) λ c. c.expr l) ⨾ post_instruction (L.post_bits tree p)) c (R.conditional tree E C Z p l)
     unfolding R.conditional R.alternative
-    conditional_does = pair_rel tree E C Z c (failing 7) (failing_does 7) (λ a b zs. a.expr l ⨾ fork (N.guard N.jump_if_falsy) N.jump same (b.expr l) (P.one zs (constant 0) λ c. c.expr l) ⨾ post_instruction (L.post_bits tree p)) xs (count_at tree p) (first_at tree p) k
+    conditional_does = pair_rel tree E C Z c (failing 7) (failing_does Failed) (λ a b zs. a.expr l ⨾ fork (N.guard N.jump_if_falsy) N.jump same (b.expr l) (P.one zs (constant 0) λ c. c.expr l) ⨾ post_instruction (L.post_bits tree p)) xs (count_at tree p) (first_at tree p) k
         (λ a b zs j e ca cb ks. thens (ca.expr_is l c) (thens (fork_does (N.guard N.jump_if_falsy) N.jump same falsy_leads jump_leads same_move (cb.expr_is l c) nothing_move
         (subst (λ (t : Bool). Does tree (P.one zs (constant 0) λ c. c.expr l) c (λ h. cond t (B.constant 0 h) (E (next_at tree (next_at tree (first_at tree p))) l h))) (two_left (count_at tree p) j e) (one_rel tree E C Z c (constant 0) (constant_does 0) (λ c. c.expr l) zs j (next_at tree (next_at tree (first_at tree p))) ks (λ a cc. cc.expr_is l c)))) (post_behind p)))
 
@@ -121,7 +125,7 @@ module _ (tree : List ℕ) (E : ℕ → Bool → Step) (C : ℕ → NameRef → 
 
     pub loop_rule : Does tree (flagged (S.sets HAS_LOOPS) (P.two xs (failing 7) λ a b. a.expr l ⨾ counted_loop (b.expr true) ⨾ constant (fold (L.post_bits tree p) 0))) c (R.counted_loop tree E C Z p l)
     unfolding R.counted_loop
-    loop_rule = flagged_does (S.sets HAS_LOOPS) (Y.flagged 64) (sets_move 64) (two_rel tree E C Z c (failing 7) (failing_does 7) (λ a b. a.expr l ⨾ counted_loop (b.expr true) ⨾ constant (fold (L.post_bits tree p) 0)) xs (count_at tree p) (first_at tree p) k
+    loop_rule = flagged_does (S.sets HAS_LOOPS) (Y.flagged 64) (sets_move 64) (two_rel tree E C Z c (failing 7) (failing_does Failed) (λ a b. a.expr l ⨾ counted_loop (b.expr true) ⨾ constant (fold (L.post_bits tree p) 0)) xs (count_at tree p) (first_at tree p) k
         (λ a b ca cb. thens (ca.expr_is l c) (thens (loop_does (cb.expr_is true (opens true c))) (constant_does (fold (L.post_bits tree p) 0)))))
 
     -- behind the variable
@@ -138,7 +142,7 @@ module _ (tree : List ℕ) (E : ℕ → Bool → Step) (C : ℕ → NameRef → 
         let f : N.EachNext → Lowering = λ i. b.expr l ⨾ eached i (e.expr true) ⨾ constant (fold (L.post_bits tree p) 0) in
         name_related tree (λ (d : Lowering) (G : Held → EachVariable × List ℕ). Does tree d c (λ h. looping p l (G h))) 4 q (node_sound n tree q sound) short (λ n. with_name n λ k. f (N.each_next_var k))
         (name_related tree (λ (d : Lowering) (G : Held → EachVariable × List ℕ). Does tree d c (λ h. looping p l (G h))) 5 q (node_sound n tree q sound) short (λ n. with_temp n λ k. f (N.each_next_temp k))
-        (failing_does 7)
+        (failing_does Failed)
         (λ r t. temp_does r t (λ v. each_body (N.each_next_temp v) 45 v (temp_leads v) cb ce)))
         (λ r t. name_does r t (λ v. each_body (N.each_next_var v) 44 v (var_leads v) cb ce))
 
@@ -147,7 +151,7 @@ module _ (tree : List ℕ) (E : ℕ → Bool → Step) (C : ℕ → NameRef → 
         → Does tree (flagged (λ f. S.not_float_only (S.sets HAS_LOOPS f)) (P.three xs (failing 7) λ a b c. D.variable (trees (tree_at n tree) tree (count_at tree p) (first_at tree p)) λ i. b.expr l ⨾ eached i (c.expr true) ⨾ constant (fold (L.post_bits tree p) 0))) c (R.for_each tree E C Z p l)
     unfolding R.for_each
     each_rule n sound short = flagged_does (λ f. S.not_float_only (S.sets HAS_LOOPS f)) (λ s. Y.not_float_only (Y.flagged 64 s)) (not_sets_move 64)
-        (three_rel tree E C Z c (failing 7) (failing_does 7) (λ a b c. D.variable (trees (tree_at n tree) tree (count_at tree p) (first_at tree p)) λ i. b.expr l ⨾ eached i (c.expr true) ⨾ constant (fold (L.post_bits tree p) 0)) xs (count_at tree p) (first_at tree p) k
+        (three_rel tree E C Z c (failing 7) (failing_does Failed) (λ a b c. D.variable (trees (tree_at n tree) tree (count_at tree p) (first_at tree p)) λ i. b.expr l ⨾ eached i (c.expr true) ⨾ constant (fold (L.post_bits tree p) 0)) xs (count_at tree p) (first_at tree p) k
         (λ a b e m ca cb ce. subst (λ (f : Lowering). Does tree f c (λ h. looping p l (R.variable tree (first_at tree p) h))) (sym (first_variable n (count_at tree p) (omega arith) (sound (omega arith)) (λ i. b.expr l ⨾ eached i (e.expr true) ⨾ constant (fold (L.post_bits tree p) 0)))) (variable_does n (sound (omega arith)) short cb ce)))
       where
         first_variable : (n m : ℕ) → 1 ≤ m → Sound n tree (first_at tree p) → (f : N.EachNext → Lowering) → D.variable (trees (tree_at n tree) tree m (first_at tree p)) f ≡ D.each_of (payload_at tree (first_at tree p)) f
@@ -159,18 +163,29 @@ module _ (tree : List ℕ) (E : ℕ → Bool → Step) (C : ℕ → NameRef → 
     value_does ys j e ks = subst (λ (t : Bool). Does tree (P.one ys (constant (P.const_of (payload_at tree p))) λ b. b.expr l) c (λ h. cond t (B.constant (Q.const_of (payload_ref_at tree p)) h) (E (next_at tree (first_at tree p)) l h))) (one_left (count_at tree p) j e)
         (one_rel tree E C Z c (constant (P.const_of (payload_at tree p))) (subst (λ (v : ℕ). Does tree (constant (P.const_of (payload_at tree p))) c (B.constant v)) (const_same tree p) (constant_does (P.const_of (payload_at tree p)))) (λ b. b.expr l) ys j (next_at tree (first_at tree p)) ks (λ b cb. cb.expr_is l c))
 
-    unless_does : (r r' : ℕ) → r ≡ r' → {f : Lowering} {F : Step} → Does tree f c F → Does tree (D.unless r f) c (λ h. cond (eqb r' 0) (F h) (W.failed r' h))
+    unless_does : (r : ℕ) (met : Option Refusal) → r ≡ number_of_first met → {f : Lowering} {F : Step} → Does tree f c F → Does tree (D.unless r f) c (L.unless_refused met F)
     unfolding D.unless
-    unless_does zero r' e {f} {F} d = subst (λ (b : Bool). Does tree f c (λ h. cond b (F h) (W.failed r' h))) (sym (eq-eqb r' 0 (sym e))) d
-    unless_does (suc r) r' e {f} {F} d = subst (λ (b : Bool). Does tree (failing (suc r)) c (λ h. cond b (F h) (W.failed r' h))) (sym (ne_eqb r' 0 (λ q. omega arith))) (subst (λ (v : ℕ). Does tree (failing (suc r)) c (W.failed v)) e (failing_does (suc r)))
+    unless_does r met e {f} {F} d = subst (λ (v : ℕ). Does tree (D.unless v f) c (L.unless_refused met F)) (sym e) (go met)
+      where
+        go : (met : Option Refusal) → Does tree (D.unless (number_of_first met) f) c (L.unless_refused met F)
+        go None = d
+        go (Some SmallWorkspace) = failing_does SmallWorkspace
+        go (Some NoTreeImage) = failing_does NoTreeImage
+        go (Some Damaged) = failing_does Damaged
+        go (Some TooDeep) = failing_does TooDeep
+        go (Some UsesArrays) = failing_does UsesArrays
+        go (Some UsesResources) = failing_does UsesResources
+        go (Some Failed) = failing_does Failed
+        go (Some WriteToOtherMob) = failing_does WriteToOtherMob
+        go (Some SmallOutput) = failing_does SmallOutput
 
     pub assign_rule : (n : ℕ) → n ≤ LEVELS → (1 ≤ count_at tree p → Sound n tree (first_at tree p)) → length tree ≤ 6144
         → Does tree (P.some xs (failing 7) λ a ys. D.target (trees (tree_at n tree) tree (count_at tree p) (first_at tree p)) (P.one ys (constant (P.const_of (payload_at tree p))) λ b. b.expr l) (L.post_bits tree p)) c (R.assignment tree E C Z n p l)
     unfolding R.assignment
-    assign_rule n le sound short = some_rel tree E C Z c (failing 7) (failing_does 7) (λ a ys. D.target (trees (tree_at n tree) tree (count_at tree p) (first_at tree p)) (P.one ys (constant (P.const_of (payload_at tree p))) λ b. b.expr l) (L.post_bits tree p)) xs (count_at tree p) (first_at tree p) k
+    assign_rule n le sound short = some_rel tree E C Z c (failing 7) (failing_does Failed) (λ a ys. D.target (trees (tree_at n tree) tree (count_at tree p) (first_at tree p)) (P.one ys (constant (P.const_of (payload_at tree p))) λ b. b.expr l) (L.post_bits tree p)) xs (count_at tree p) (first_at tree p) k
         (λ a ys j e ca ks.
         let q = first_at tree p in
         let v : Lowering = P.one ys (constant (P.const_of (payload_at tree p))) λ b. b.expr l in
-        subst (λ (f : Lowering). Does tree f c (λ h. cond (eqb (R.target_refusal tree q) 0) (R.store tree n q p (R.value tree E C Z p q l (still (Y.flagged 32) h))) (W.failed (R.target_refusal tree q) h))) (sym (target_is tree q n (count_at tree p) (omega arith) (sound (omega arith)) v (L.post_bits tree p)))
+        subst (λ (f : Lowering). Does tree f c (L.unless_refused (R.target_refusal tree q) (λ h. R.store tree n q p (R.value tree E C Z p q l (still (Y.flagged 32) h))))) (sym (target_is tree q n (count_at tree p) (omega arith) (sound (omega arith)) v (L.post_bits tree p)))
         (unless_does (D.target_refusal (rule_at (op_at tree q)) (payload_at tree q)) (R.target_refusal tree q) (target_same tree q)
         (flagged_does (S.sets HAS_ASSIGNMENT) (Y.flagged 32) (sets_move 32) (thens (value_does ys j e ks) (store_does n q p le (sound (omega arith)) short)))))

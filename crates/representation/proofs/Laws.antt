@@ -1,4 +1,9 @@
 -- Steps put together, and steps beside the words: the waiting Push, counters, flags, refusals. Assumes nothing.
+use Rattle.std.proofs.Common.{Option, None, Some}
+use Rattle.std.specs.Option.{option_or}
+use Rattle.answers.specs.Refusals.{number_of, number_of_first}
+use Rattle.answers.specs.declared.refusals.Refusal.{Refusal}
+use Rattle.answers.specs.declared.refusals.Refusal.TheVariants.{SmallWorkspace, NoTreeImage, Damaged, TooDeep, UsesArrays, UsesResources, Failed, WriteToOtherMob, SmallOutput}
 use mathlib.Core.Path.{◌≡◌, refl, sym, ap, subst, ◌∙◌}
 use mathlib.Core.Bool.{Bool, true, false, cond}
 use mathlib.Core.List.{List, append_assoc}
@@ -82,30 +87,35 @@ module _ {tree : List ℕ} {c : Counts} where
 
 -- ---- refusals
 
-first_pick : (r n : ℕ) (s : B.State) → s.refusal ≡ r → cond (eqb r 0) (set_refusal n s) s ≡ set_refusal (first r n) s
+-- the first number stays where the first refusal does
+first_met : (met : Option Refusal) (why : Refusal) → number_of_first (option_or met (Some why)) ≡ first (number_of_first met) (number_of why)
 unfolding first
-first_pick zero n s e = refl
-first_pick (suc r) n s e = rw (ne_eqb (suc r) 0 (λ q. omega arith)) (ap (λ (x : ℕ). set_refusal x s) e)
-
-refused_is : (n : ℕ) (s : B.State) → W.refused n s ≡ set_refusal (first s.refusal n) s
-unfolding W.refused
-refused_is n s = first_pick s.refusal n s refl
+first_met None why = refl
+first_met (Some SmallWorkspace) why = refl
+first_met (Some NoTreeImage) why = refl
+first_met (Some Damaged) why = refl
+first_met (Some TooDeep) why = refl
+first_met (Some UsesArrays) why = refl
+first_met (Some UsesResources) why = refl
+first_met (Some Failed) why = refl
+first_met (Some WriteToOtherMob) why = refl
+first_met (Some SmallOutput) why = refl
 
 abbrev pub push_a : Counts → Abs → Abs
 push_a c A = waits true (on_state (raise (operand+ c)) A)
 
 module _ {tree : List ℕ} {c : Counts} where
-  pub fails_move : (n : ℕ) → Moves tree (on_state (fail n)) c c (still (W.refused n))
-  fails_move n = record {
-    back = back_fail n;
+  pub fails_move : (why : Refusal) → Moves tree (on_state (fail (number_of why))) c c (still (W.refused why))
+  unfolding W.refused
+  fails_move why = record {
+    back = back_fail (number_of why);
     keep = λ A h f k.
         let b = k.beside in
-        subst (λ (s : B.State). Content tree c (s, h.1) (on_state (fail n) A)) (sym (refused_is n h.0))
-        (record {
+        record {
           enough = k.enough;
-          beside = record { waiting_is = b.waiting_is; stack_is = b.stack_is; loops_is = b.loops_is; handlers_is = b.handlers_is; stack_max = b.stack_max; loops_max = b.loops_max; handlers_max = b.handlers_max; stack_within = b.stack_within; loops_within = b.loops_within; handlers_within = b.handlers_within; bits_are = b.bits_are; float_loop_is = b.float_loop_is; number_is = ap (λ (x : ℕ). first x n) b.number_is };
+          beside = record { waiting_is = b.waiting_is; stack_is = b.stack_is; loops_is = b.loops_is; handlers_is = b.handlers_is; stack_max = b.stack_max; loops_max = b.loops_max; handlers_max = b.handlers_max; stack_within = b.stack_within; loops_within = b.loops_within; handlers_within = b.handlers_within; bits_are = b.bits_are; float_loop_is = b.float_loop_is; number_is = first_met h.0.refusal why ∙ ap (λ (x : ℕ). first x (number_of why)) b.number_is };
           tables = k.tables;
-        });
+        };
   }
 
   -- ---- counters: up

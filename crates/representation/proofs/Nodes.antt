@@ -1,4 +1,5 @@
 -- The lowering in words is the lowering: for every node of an accepted image, each rule, and the whole tree. Assumes nothing.
+use Rattle.answers.specs.declared.refusals.Refusal.TheVariants as Refusal
 use mathlib.Core.Path.{◌≡◌, refl, sym, subst}
 use mathlib.Core.Bool.{Bool, true, false, cond, ◌&&◌}
 use mathlib.Core.List.{List, [], ◌∷◌, ◌++◌}
@@ -69,7 +70,7 @@ module _ (tree : List ℕ) (short : length tree ≤ 6144) (n : ℕ) (le : n ≤ 
 
   v0 : Views 0
   unfolding rules lower_rule lower_plain R.branch R.among R.leaf
-  v0 = record { as_expr = λ l c. failing_does 7; as_statement = λ l c. failing_does 7; as_base = λ last t l c. failing_does 7 }
+  v0 = record { as_expr = λ l c. failing_does Refusal.Failed; as_statement = λ l c. failing_does Refusal.Failed; as_base = λ last t l c. failing_does Refusal.Failed }
 
   v1 : Views 1
   unfolding rules lower_rule lower_plain R.branch R.among R.leaf settings
@@ -77,23 +78,23 @@ module _ (tree : List ℕ) (short : length tree ≤ 6144) (n : ℕ) (le : n ≤ 
 
   v2 : Views 2
   unfolding rules lower_rule lower_plain R.branch R.among R.leaf
-  v2 = record { as_expr = λ l c. failing_does 5; as_statement = λ l c. failing_does 5; as_base = λ last t l c. failing_does 5 }
+  v2 = record { as_expr = λ l c. failing_does Refusal.UsesArrays; as_statement = λ l c. failing_does Refusal.UsesArrays; as_base = λ last t l c. failing_does Refusal.UsesArrays }
 
   v3 : Views 3
   unfolding rules lower_rule lower_plain R.branch R.among R.leaf
-  v3 = record { as_expr = λ l c. failing_does 5; as_statement = λ l c. failing_does 5; as_base = λ last t l c. failing_does 5 }
+  v3 = record { as_expr = λ l c. failing_does Refusal.UsesArrays; as_statement = λ l c. failing_does Refusal.UsesArrays; as_base = λ last t l c. failing_does Refusal.UsesArrays }
 
   v4 : Views 4
   unfolding rules lower_rule lower_plain R.branch R.among R.leaf
-  v4 = record { as_expr = λ l c. failing_does 6; as_statement = λ l c. failing_does 6; as_base = λ last t l c. failing_does 6 }
+  v4 = record { as_expr = λ l c. failing_does Refusal.UsesResources; as_statement = λ l c. failing_does Refusal.UsesResources; as_base = λ last t l c. failing_does Refusal.UsesResources }
 
   v5 : Views 5
   unfolding rules lower_rule lower_plain R.branch R.among R.leaf
-  v5 = record { as_expr = λ l c. failing_does 6; as_statement = λ l c. failing_does 6; as_base = λ last t l c. failing_does 6 }
+  v5 = record { as_expr = λ l c. failing_does Refusal.UsesResources; as_statement = λ l c. failing_does Refusal.UsesResources; as_base = λ last t l c. failing_does Refusal.UsesResources }
 
   v6 : Views 6
   unfolding rules lower_rule lower_plain R.branch R.among R.leaf
-  v6 = record { as_expr = λ l c. failing_does 6; as_statement = λ l c. failing_does 6; as_base = λ last t l c. failing_does 6 }
+  v6 = record { as_expr = λ l c. failing_does Refusal.UsesResources; as_statement = λ l c. failing_does Refusal.UsesResources; as_base = λ last t l c. failing_does Refusal.UsesResources }
 
   v7 : Views 7
   unfolding rules lower_rule lower_plain R.branch R.among R.leaf
@@ -137,7 +138,7 @@ module _ (tree : List ℕ) (short : length tree ≤ 6144) (n : ℕ) (le : n ≤ 
 
   v17 : Views 17
   unfolding rules lower_rule lower_plain R.branch R.among R.leaf R.query
-  v17 = record { as_expr = λ l c. as_query_lem p (failing_does 7) (λ i m. query_does tree E C Z c p i m xs k (pends c)); as_statement = λ l c. as_query_lem p (failing_does 7) (λ i m. query_does tree E C Z c p i m xs k (pends c)); as_base = λ last t l c. as_query_lem p (failing_does 7) (λ i m. query_does tree E C Z c p i m xs k (pends c)) }
+  v17 = record { as_expr = λ l c. as_query_lem p (failing_does Refusal.Failed) (λ i m. query_does tree E C Z c p i m xs k (pends c)); as_statement = λ l c. as_query_lem p (failing_does Refusal.Failed) (λ i m. query_does tree E C Z c p i m xs k (pends c)); as_base = λ last t l c. as_query_lem p (failing_does Refusal.Failed) (λ i m. query_does tree E C Z c p i m xs k (pends c)) }
 
   v18 : Views 18
   unfolding rules lower_rule lower_plain R.branch R.among R.leaf
@@ -277,7 +278,7 @@ module _ (tree : List ℕ) (short : length tree ≤ 6144) (n : ℕ) (le : n ≤ 
 
   v52 : Views 52
   unfolding rules lower_rule lower_plain R.branch R.among R.leaf
-  v52 = record { as_expr = λ l c. failing_does 7; as_statement = λ l c. failing_does 7; as_base = λ last t l c. failing_does 7 }
+  v52 = record { as_expr = λ l c. failing_does Refusal.Failed; as_statement = λ l c. failing_does Refusal.Failed; as_base = λ last t l c. failing_does Refusal.Failed }
 
   -- all numbers up to 52
   abbrev Upward : ℕ → ℕ → Type 0

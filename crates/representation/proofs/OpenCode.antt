@@ -1,4 +1,6 @@
 -- The open code: an instruction more, a Push that waits, a target set. Assumes nothing.
+use Rattle.answers.specs.Refusals.{number_of}
+use Rattle.answers.specs.declared.refusals.Refusal.{Refusal}
 use mathlib.Core.Path.{◌≡◌, refl, sym, ap, subst, ◌∙◌}
 use mathlib.Core.Bool.{Bool, true, false, cond, true≢false}
 use mathlib.Core.List.{List, [], ◌∷◌, ◌++◌, append_assoc, append-nil}
@@ -187,9 +189,9 @@ module _ {tree : List ℕ} {c : Counts} where
       nil : (A : Abs) → flush_a A ≡ at_a (λ n s. emit [] s) (flush_a A)
       nil A = rw append-nil
 
-  pub failing_does : (r : ℕ) → Does tree (failing r) c (W.failed r)
+  pub failing_does : (why : Refusal) → Does tree (failing (number_of why)) c (W.failed why)
   unfolding W.failed
-  failing_does r = does _ c (λ A. nil A ∙ sym (flush_is (λ k n s. emit [] (fail r s)) c A)) (both flushes (fails_move r))
+  failing_does why = does _ c (λ A. nil A ∙ sym (flush_is (λ k n s. emit [] (fail (number_of why) s)) c A)) (both flushes (fails_move why))
     where
-      nil : (A : Abs) → on_state (fail r) (flush_a A) ≡ at_a (λ n s. emit [] (fail r s)) (flush_a A)
+      nil : (A : Abs) → on_state (fail (number_of why)) (flush_a A) ≡ at_a (λ n s. emit [] (fail (number_of why) s)) (flush_a A)
       nil A = rw append-nil

@@ -1,4 +1,5 @@
 -- Logic and arithmetic: each rule is what its definition says. Assumes nothing.
+use Rattle.answers.specs.declared.refusals.Refusal.TheVariants as Refusal
 use mathlib.Core.Path.{◌≡◌, refl, sym, subst}
 use mathlib.Core.Bool.{Bool, cond}
 use mathlib.Core.List.{List, [], ◌∷◌}
@@ -114,7 +115,7 @@ module _ (tree : List ℕ) (E : ℕ → Bool → Step) (C : ℕ → NameRef → 
   module _ (p : ℕ) (xs : List Lowerings) (k : Children tree E C Z xs (count_at tree p) (first_at tree p)) {c : Counts} (l : Bool) where
     pub compare_does : (o : ℕ) → Does tree (P.some xs (failing 7) λ a ys. with_post (L.post_bits tree p) λ q. P.some ys (a.expr l ⨾ with_const (P.const_of (payload_at tree p)) (λ k. put (N.plain (N.cmp_const o k q)))) λ b zs. pushed (a.expr l) (b.expr l ⨾ put (N.taking (N.cmp o q)))) c (R.compare tree E C Z o p l)
     unfolding R.compare R.compare_const
-    compare_does o = some_rel tree E C Z c (failing 7) (failing_does 7) (λ a ys. with_post (L.post_bits tree p) λ q. P.some ys (a.expr l ⨾ with_const (P.const_of (payload_at tree p)) (λ k. put (N.plain (N.cmp_const o k q)))) λ b zs. pushed (a.expr l) (b.expr l ⨾ put (N.taking (N.cmp o q)))) xs (count_at tree p) (first_at tree p) k (λ a ys j e ca ks. post_does (L.post_bits tree p) (λ q.
+    compare_does o = some_rel tree E C Z c (failing 7) (failing_does Refusal.Failed) (λ a ys. with_post (L.post_bits tree p) λ q. P.some ys (a.expr l ⨾ with_const (P.const_of (payload_at tree p)) (λ k. put (N.plain (N.cmp_const o k q)))) λ b zs. pushed (a.expr l) (b.expr l ⨾ put (N.taking (N.cmp o q)))) xs (count_at tree p) (first_at tree p) k (λ a ys j e ca ks. post_does (L.post_bits tree p) (λ q.
         subst (λ (t : Bool). Does tree (P.some ys (a.expr l ⨾ with_const (P.const_of (payload_at tree p)) (λ k. put (N.plain (N.cmp_const o k q)))) λ b zs. pushed (a.expr l) (b.expr l ⨾ put (N.taking (N.cmp o q)))) c (λ g. cond t (L.with_const (Q.const_of (payload_ref_at tree p)) (λ k. L.instr 24 o k q) (E (first_at tree p) l g)) (still (Y.popped 1) (L.instr 23 o 0 q (R.binary tree E C Z (first_at tree p) l g))))) (one_left (count_at tree p) j e)
         (some_rel tree E C Z c (a.expr l ⨾ with_const (P.const_of (payload_at tree p)) (λ k. put (N.plain (N.cmp_const o k q))))
         (thens (ca.expr_is l c) (subst (λ (v : ℕ). Does tree (with_const (P.const_of (payload_at tree p)) (λ k. put (N.plain (N.cmp_const o k q)))) c (L.with_const v (λ k. L.instr 24 o k q))) (const_same tree p) (const_does (P.const_of (payload_at tree p)) (λ i. instr_does (N.plain (N.cmp_const o i q)) (words o i q).0))))
@@ -128,28 +129,28 @@ module _ (tree : List ℕ) (E : ℕ → Bool → Step) (C : ℕ → NameRef → 
 
     pub equal_does : (o : ℕ) → Does tree (P.some xs (failing 7) λ a ys. with_post (L.post_bits tree p) λ q. P.some ys (a.expr l ⨾ D.equal_const o (payload_at tree p) q) λ b zs. pushed (a.expr l) (b.expr l ⨾ put (N.taking (N.eq o q)))) c (R.equal tree E C Z o p l)
     unfolding R.equal
-    equal_does o = some_rel tree E C Z c (failing 7) (failing_does 7) (λ a ys. with_post (L.post_bits tree p) λ q. P.some ys (a.expr l ⨾ D.equal_const o (payload_at tree p) q) λ b zs. pushed (a.expr l) (b.expr l ⨾ put (N.taking (N.eq o q)))) xs (count_at tree p) (first_at tree p) k (λ a ys j e ca ks. post_does (L.post_bits tree p) (λ q.
+    equal_does o = some_rel tree E C Z c (failing 7) (failing_does Refusal.Failed) (λ a ys. with_post (L.post_bits tree p) λ q. P.some ys (a.expr l ⨾ D.equal_const o (payload_at tree p) q) λ b zs. pushed (a.expr l) (b.expr l ⨾ put (N.taking (N.eq o q)))) xs (count_at tree p) (first_at tree p) k (λ a ys j e ca ks. post_does (L.post_bits tree p) (λ q.
         subst (λ (t : Bool). Does tree (P.some ys (a.expr l ⨾ D.equal_const o (payload_at tree p) q) λ b zs. pushed (a.expr l) (b.expr l ⨾ put (N.taking (N.eq o q)))) c (λ g. cond t (R.equal_const tree p o q (E (first_at tree p) l g)) (still (Y.popped 1) (L.instr 25 o 0 q (R.binary tree E C Z (first_at tree p) l g))))) (one_left (count_at tree p) j e)
         (some_rel tree E C Z c (a.expr l ⨾ D.equal_const o (payload_at tree p) q) (thens (ca.expr_is l c) (equal_const_lem o q))
         (λ b zs. pushed (a.expr l) (b.expr l ⨾ put (N.taking (N.eq o q)))) ys j (next_at tree (first_at tree p)) ks (λ b zs i d cb ls. binary_does (first_at tree p) l ca cb (instr_does (N.taking (N.eq o q)) (words o 0 q).4)))))
 
     pub and_does : Does tree (P.some xs (failing 7) λ a ys. with_post (L.post_bits tree p) λ q. D.logic (N.and_step q) (N.and_last q) a ys l) c (R.logic tree E C Z 28 30 p l)
     unfolding R.logic
-    and_does = some_rel tree E C Z c (failing 7) (failing_does 7) (λ a ys. with_post (L.post_bits tree p) λ q. D.logic (N.and_step q) (N.and_last q) a ys l) xs (count_at tree p) (first_at tree p) k (λ a ys j e ca ks. post_does (L.post_bits tree p) (λ q.
+    and_does = some_rel tree E C Z c (failing 7) (failing_does Refusal.Failed) (λ a ys. with_post (L.post_bits tree p) λ q. D.logic (N.and_step q) (N.and_last q) a ys l) xs (count_at tree p) (first_at tree p) k (λ a ys j e ca ks. post_does (L.post_bits tree p) (λ q.
         subst (λ (m : ℕ). Does tree (D.logic (N.and_step q) (N.and_last q) a ys l) c (R.operands tree E C Z 28 30 q m (first_at tree p) l)) (less (count_at tree p) j e) (junction_does (N.and_step q) (N.and_last q) 28 30 q (and_leads q) (words 0 0 q).13 a ys j (first_at tree p) l ca ks)))
 
     pub or_does : Does tree (P.some xs (failing 7) λ a ys. with_post (L.post_bits tree p) λ q. D.logic (N.or_step q) (N.or_last q) a ys l) c (R.logic tree E C Z 29 31 p l)
     unfolding R.logic
-    or_does = some_rel tree E C Z c (failing 7) (failing_does 7) (λ a ys. with_post (L.post_bits tree p) λ q. D.logic (N.or_step q) (N.or_last q) a ys l) xs (count_at tree p) (first_at tree p) k (λ a ys j e ca ks. post_does (L.post_bits tree p) (λ q.
+    or_does = some_rel tree E C Z c (failing 7) (failing_does Refusal.Failed) (λ a ys. with_post (L.post_bits tree p) λ q. D.logic (N.or_step q) (N.or_last q) a ys l) xs (count_at tree p) (first_at tree p) k (λ a ys j e ca ks. post_does (L.post_bits tree p) (λ q.
         subst (λ (m : ℕ). Does tree (D.logic (N.or_step q) (N.or_last q) a ys l) c (R.operands tree E C Z 29 31 q m (first_at tree p) l)) (less (count_at tree p) j e) (junction_does (N.or_step q) (N.or_last q) 29 31 q (or_leads q) (words 0 0 q).14 a ys j (first_at tree p) l ca ks)))
 
     pub bracket_does : Does tree (P.one xs (failing 7) λ a. a.expr l) c (R.bracket tree E C Z p l)
     unfolding R.bracket
-    bracket_does = one_rel tree E C Z c (failing 7) (failing_does 7) (λ a. a.expr l) xs (count_at tree p) (first_at tree p) k (λ a ca. ca.expr_is l c)
+    bracket_does = one_rel tree E C Z c (failing 7) (failing_does Refusal.Failed) (λ a. a.expr l) xs (count_at tree p) (first_at tree p) k (λ a ca. ca.expr_is l c)
 
     pub unary_does : (i : ℕ → N.Plain) (op : ℕ) → ((q : ℕ) → word_of (N.plain (i q)) ≡ word op 0 0 q) → Does tree (P.one xs (failing 7) λ a. a.expr l ⨾ with_post (L.post_bits tree p) (λ q. put (N.plain (i q)))) c (R.unary tree E C Z op p l)
     unfolding R.unary
-    unary_does i op e = one_rel tree E C Z c (failing 7) (failing_does 7) (λ a. a.expr l ⨾ with_post (L.post_bits tree p) (λ q. put (N.plain (i q)))) xs (count_at tree p) (first_at tree p) k (λ a ca. thens (ca.expr_is l c) (put_post_lem p (λ q. N.plain (i q)) op 0 0 e))
+    unary_does i op e = one_rel tree E C Z c (failing 7) (failing_does Refusal.Failed) (λ a. a.expr l ⨾ with_post (L.post_bits tree p) (λ q. put (N.plain (i q)))) xs (count_at tree p) (first_at tree p) k (λ a ca. thens (ca.expr_is l c) (put_post_lem p (λ q. N.plain (i q)) op 0 0 e))
 
     pub negate_does : Does tree (P.one xs (failing 7) λ a. a.expr l ⨾ with_post (L.post_bits tree p) (λ q. put (N.plain (N.negate q)))) c (R.unary tree E C Z 15 p l)
     negate_does = unary_does N.negate 15 (λ q. (words 0 0 q).11)
@@ -159,16 +160,16 @@ module _ (tree : List ℕ) (E : ℕ → Bool → Step) (C : ℕ → NameRef → 
 
     pub mul_does : Does tree (P.two xs (failing 7) λ a b. pushed (a.expr l) (b.expr l ⨾ with_post (L.post_bits tree p) (λ q. put (N.taking (N.mul q))))) c (R.mul tree E C Z p l)
     unfolding R.mul
-    mul_does = two_rel tree E C Z c (failing 7) (failing_does 7) (λ a b. pushed (a.expr l) (b.expr l ⨾ with_post (L.post_bits tree p) (λ q. put (N.taking (N.mul q))))) xs (count_at tree p) (first_at tree p) k (λ a b ca cb. binary_does (first_at tree p) l ca cb (put_post_lem p (λ q. N.taking (N.mul q)) 19 0 0 (λ q. (words 0 0 q).7)))
+    mul_does = two_rel tree E C Z c (failing 7) (failing_does Refusal.Failed) (λ a b. pushed (a.expr l) (b.expr l ⨾ with_post (L.post_bits tree p) (λ q. put (N.taking (N.mul q))))) xs (count_at tree p) (first_at tree p) k (λ a b ca cb. binary_does (first_at tree p) l ca cb (put_post_lem p (λ q. N.taking (N.mul q)) 19 0 0 (λ q. (words 0 0 q).7)))
 
     pub div_does : Does tree (P.two xs (failing 7) λ a b. b.expr l ⨾ guarded (N.div_guard (eqb (be8 tree 0 6) 1)) operand+ (a.expr l ⨾ with_post (L.post_bits tree p) (λ q. put (N.taking (N.div q))))) c (R.div tree E C Z p l)
     unfolding R.div
-    div_does = two_rel tree E C Z c (failing 7) (failing_does 7) (λ a b. b.expr l ⨾ guarded (N.div_guard (eqb (be8 tree 0 6) 1)) operand+ (a.expr l ⨾ with_post (L.post_bits tree p) (λ q. put (N.taking (N.div q))))) xs (count_at tree p) (first_at tree p) k
+    div_does = two_rel tree E C Z c (failing 7) (failing_does Refusal.Failed) (λ a b. b.expr l ⨾ guarded (N.div_guard (eqb (be8 tree 0 6) 1)) operand+ (a.expr l ⨾ with_post (L.post_bits tree p) (λ q. put (N.taking (N.div q))))) xs (count_at tree p) (first_at tree p) k
         (λ a b ca cb. thens (cb.expr_is l c) (guarded_does (N.div_guard (eqb (be8 tree 0 6) 1)) operand+ (div_leads (eqb (be8 tree 0 6) 1)) operand_move (thens (ca.expr_is l (operand+ c)) (put_post_lem p (λ q. N.taking (N.div q)) 21 0 0 (λ q. (words 0 0 q).8))) (pop_one c)))
 
     pub add_does : Does tree (P.some xs (failing 7) λ a ys. P.some ys (a.expr l ⨾ post_instruction (L.post_bits tree p)) λ b zs. pushed (a.expr l) (D.terms (L.post_bits tree p) b zs l)) c (R.add tree E C Z p l)
     unfolding R.add
-    add_does = some_rel tree E C Z c (failing 7) (failing_does 7) (λ a ys. P.some ys (a.expr l ⨾ post_instruction (L.post_bits tree p)) λ b zs. pushed (a.expr l) (D.terms (L.post_bits tree p) b zs l)) xs (count_at tree p) (first_at tree p) k (λ a ys j e ca ks.
+    add_does = some_rel tree E C Z c (failing 7) (failing_does Refusal.Failed) (λ a ys. P.some ys (a.expr l ⨾ post_instruction (L.post_bits tree p)) λ b zs. pushed (a.expr l) (D.terms (L.post_bits tree p) b zs l)) xs (count_at tree p) (first_at tree p) k (λ a ys j e ca ks.
         subst (λ (t : Bool). Does tree (P.some ys (a.expr l ⨾ post_instruction (L.post_bits tree p)) λ b zs. pushed (a.expr l) (D.terms (L.post_bits tree p) b zs l)) c (λ h. cond t (L.post_instr tree p (E (first_at tree p) l h)) (still (Y.popped 1) (R.terms tree E C Z p (count_at tree p - 2) (next_at tree (first_at tree p)) l (still W.pushed (E (first_at tree p) l h)))))) (one_left (count_at tree p) j e)
         (some_rel tree E C Z c (a.expr l ⨾ post_instruction (L.post_bits tree p)) (thens (ca.expr_is l c) (post_behind p)) (λ b zs. pushed (a.expr l) (D.terms (L.post_bits tree p) b zs l)) ys j (next_at tree (first_at tree p)) ks (λ b zs i d cb ls.
         let m : i ≡ count_at tree p - 2 = omega arith in
@@ -178,21 +179,21 @@ module _ (tree : List ℕ) (E : ℕ → Bool → Step) (C : ℕ → NameRef → 
     pub pointer_does : Does tree (D.pointer (L.post_bits tree p) xs l) c (R.pointer tree E C Z p l)
     unfolding D.pointer R.pointer
     pointer_does = flagged_does (λ f. S.sets USES_ARROW (S.not_float_only f)) (λ s. Y.flagged 128 (Y.not_float_only s)) (sets_not_move 128)
-        (two_rel tree E C Z c (failing 7) (failing_does 7) (λ a b. with_post (L.post_bits tree p) λ q. a.expr l ⨾ guarded (N.pointer_enter q) same (b.expr l ⨾ put (N.plain (N.pointer_leave q)))) xs (count_at tree p) (first_at tree p) k
+        (two_rel tree E C Z c (failing 7) (failing_does Refusal.Failed) (λ a b. with_post (L.post_bits tree p) λ q. a.expr l ⨾ guarded (N.pointer_enter q) same (b.expr l ⨾ put (N.plain (N.pointer_leave q)))) xs (count_at tree p) (first_at tree p) k
         (λ a b ca cb. post_does (L.post_bits tree p) (λ q. thens (ca.expr_is l c) (guarded_does (N.pointer_enter q) same (arrow_leads q) same_move (thens (cb.expr_is l c) (instr_does (N.plain (N.pointer_leave q)) (words 0 0 q).10)) nothing_move))))
 
     -- 255 arguments at most
-    few : (m : ℕ) {g : Lowering} {G : Step} → Does tree g c G → Does tree (cond (leb m 255) g (failing 7)) c (λ h. cond (ltb 255 m) (W.failed 7 h) (G h))
+    few : (m : ℕ) {g : Lowering} {G : Step} → Does tree g c G → Does tree (cond (leb m 255) g (failing 7)) c (λ h. cond (ltb 255 m) (W.failed Refusal.Failed h) (G h))
     few m {g} {G} d = go (dec_lt 255 m)
       where
-        go : Dec (255 < m) → Does tree (cond (leb m 255) g (failing 7)) c (λ h. cond (ltb 255 m) (W.failed 7 h) (G h))
-        go (yes r) = subst (λ (t : Bool). Does tree (cond t g (failing 7)) c (λ h. cond (ltb 255 m) (W.failed 7 h) (G h))) (sym (lt-leb m 255 r)) (subst (λ (t : Bool). Does tree (failing 7) c (λ h. cond t (W.failed 7 h) (G h))) (sym (lt-ltb 255 m r)) (failing_does 7))
-        go (no r) = subst (λ (t : Bool). Does tree (cond t g (failing 7)) c (λ h. cond (ltb 255 m) (W.failed 7 h) (G h))) (sym (le-leb m 255 (omega arith))) (subst (λ (t : Bool). Does tree g c (λ h. cond t (W.failed 7 h) (G h))) (sym (le-ltb 255 m (omega arith))) d)
+        go : Dec (255 < m) → Does tree (cond (leb m 255) g (failing 7)) c (λ h. cond (ltb 255 m) (W.failed Refusal.Failed h) (G h))
+        go (yes r) = subst (λ (t : Bool). Does tree (cond t g (failing 7)) c (λ h. cond (ltb 255 m) (W.failed Refusal.Failed h) (G h))) (sym (lt-leb m 255 r)) (subst (λ (t : Bool). Does tree (failing 7) c (λ h. cond t (W.failed Refusal.Failed h) (G h))) (sym (lt-ltb 255 m r)) (failing_does Refusal.Failed))
+        go (no r) = subst (λ (t : Bool). Does tree (cond t g (failing 7)) c (λ h. cond (ltb 255 m) (W.failed Refusal.Failed h) (G h))) (sym (le-leb m 255 (omega arith))) (subst (λ (t : Bool). Does tree g c (λ h. cond t (W.failed Refusal.Failed h) (G h))) (sym (le-ltb 255 m (omega arith))) d)
 
     pub math_does : (bits : ℕ) → Does tree (flagged (S.sets bits) (P.as_math (payload_at tree p) (failing 7) λ f. P.some xs (failing 7) λ a ys. cond (leb (length xs) 255) (D.host_math f (length xs) (L.post_bits tree p) a ys l) (failing 7))) c (R.host_math tree E C Z bits p l)
     unfolding R.host_math
-    math_does bits = flagged_does (S.sets bits) (Y.flagged bits) (sets_move bits) (as_math_lem p (failing_does 7) (λ f.
+    math_does bits = flagged_does (S.sets bits) (Y.flagged bits) (sets_move bits) (as_math_lem p (failing_does Refusal.Failed) (λ f.
         let e = children_count tree E C Z xs (count_at tree p) (first_at tree p) k in
-        subst (λ (n : ℕ). Does tree (P.some xs (failing 7) λ a ys. cond (leb n 255) (D.host_math f n (L.post_bits tree p) a ys l) (failing 7)) c (λ h. cond (eqb (count_at tree p) 0) (W.failed 7 h) (cond (ltb 255 (count_at tree p)) (W.failed 7 h) (still (Y.popped (count_at tree p - 1)) (R.host_arguments tree E C Z p f (count_at tree p) (count_at tree p - 1) (first_at tree p) l h))))) (sym e)
-        (some_rel tree E C Z c (failing 7) (failing_does 7) (λ a ys. cond (leb (count_at tree p) 255) (D.host_math f (count_at tree p) (L.post_bits tree p) a ys l) (failing 7)) xs (count_at tree p) (first_at tree p) k (λ a ys j d ca ks.
+        subst (λ (n : ℕ). Does tree (P.some xs (failing 7) λ a ys. cond (leb n 255) (D.host_math f n (L.post_bits tree p) a ys l) (failing 7)) c (λ h. cond (eqb (count_at tree p) 0) (W.failed Refusal.Failed h) (cond (ltb 255 (count_at tree p)) (W.failed Refusal.Failed h) (still (Y.popped (count_at tree p - 1)) (R.host_arguments tree E C Z p f (count_at tree p) (count_at tree p - 1) (first_at tree p) l h))))) (sym e)
+        (some_rel tree E C Z c (failing 7) (failing_does Refusal.Failed) (λ a ys. cond (leb (count_at tree p) 255) (D.host_math f (count_at tree p) (L.post_bits tree p) a ys l) (failing 7)) xs (count_at tree p) (first_at tree p) k (λ a ys j d ca ks.
         few (count_at tree p) (subst (λ (m : ℕ). Does tree (D.host_math f (count_at tree p) (L.post_bits tree p) a ys l) c (λ h. still (Y.popped m) (R.host_arguments tree E C Z p f (count_at tree p) m (first_at tree p) l h))) (less (count_at tree p) j d) (hosted_does p f (count_at tree p) a ys j (first_at tree p) l ca ks))))))

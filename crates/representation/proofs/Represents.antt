@@ -1,4 +1,5 @@
 -- What the builder's state and the workspace's words stand for: the state of the lowering. Definitions of the proof; nothing here is to be believed.
+use Rattle.answers.specs.Refusals.{number_of_first}
 use mathlib.Core.Path.{◌≡◌}
 use mathlib.Core.Bool.{Bool, false}
 use mathlib.Core.List.{List, [], ◌∷◌, ◌++◌}
@@ -176,7 +177,7 @@ pub record Beside (c : Counts) (waiting : Bool) (stack loops handlers top_stack 
 
 pub record Content (tree : List ℕ) (c : Counts) (h : Held) (A : Abs) : Type 0 where
   pub enough : 16384 ≤ length h.1
-  pub beside : Beside c h.0.waiting h.0.depth.now.stack h.0.depth.now.loops h.0.depth.now.handlers h.0.depth.max.stack h.0.depth.max.loops h.0.depth.max.handlers h.0.flags h.0.float_loop h.0.refusal A.wait A.state.deepest A.state.flags A.state.refusal
+  pub beside : Beside c h.0.waiting h.0.depth.now.stack h.0.depth.now.loops h.0.depth.now.handlers h.0.depth.max.stack h.0.depth.max.loops h.0.depth.max.handlers h.0.flags h.0.float_loop (number_of_first h.0.refusal) A.wait A.state.deepest A.state.flags A.state.refusal
   pub tables : Tables tree h.1 h.0.top h.0.base h.0.finished h.0.consts h.0.posts h.0.hashes h.0.names h.0.temps h.0.members h.0.stores h.0.paths h.0.calls h.0.arguments A.outer A.code A.open_calls A.state.pools
 
 -- ---- steps

@@ -1,4 +1,5 @@
 -- An assignment's target: the path of a member store, the stores and their paths in the workspace. Assumes nothing.
+use Rattle.answers.specs.declared.refusals.Refusal.TheVariants as Refusal
 use mathlib.Core.Path.{◌≡◌, refl, sym, ap, subst, ◌∙◌}
 use mathlib.Core.Bool.{Bool, true, false, cond, ◌&&◌, false≢true}
 use mathlib.Core.List.{List, [], ◌∷◌, ◌++◌}
@@ -387,9 +388,9 @@ module _ (tree : List ℕ) (c : Counts) (n p : ℕ) (m : P.Path) (e : PathEnd) (
   member_store_lem = flagged_does (λ f. S.sets USES_MEMBERS (S.not_float_only f)) (λ s. L.flagged 16 (L.not_float_only s)) members_move root_var_lem
 
 -- the path is there and fine, or the target is refused
-member_if : {tree : List ℕ} {c : Counts} (b : Bool) {f : Lowering} {F : Step} → (b ≡ true → Does tree f c F) → Does tree (cond b f (failing 7)) c (λ h. cond b (F h) (W.failed 7 h))
+member_if : {tree : List ℕ} {c : Counts} (b : Bool) {f : Lowering} {F : Step} → (b ≡ true → Does tree f c F) → Does tree (cond b f (failing 7)) c (λ h. cond b (F h) (W.failed Refusal.Failed h))
 member_if true d = d refl
-member_if false d = failing_does 7
+member_if false d = failing_does Refusal.Failed
 
 second : (a b : Bool) → (a && b) ≡ true → b ≡ true
 second true b h = h

@@ -1,4 +1,8 @@
 -- An assignment's target by the number of its rule: the words' rule is the definition's. Assumes nothing.
+use Rattle.std.proofs.Common.{Option, None, Some}
+use Rattle.answers.specs.Refusals.{number_of_first}
+use Rattle.answers.specs.declared.refusals.Refusal.{Refusal}
+use Rattle.answers.specs.declared.refusals.Refusal.TheVariants.{Failed, WriteToOtherMob}
 use mathlib.Core.Path.{◌≡◌, refl, sym}
 use mathlib.Core.Bool.{true, false, cond}
 use mathlib.Core.List.{List}
@@ -83,13 +87,15 @@ pub member_same : (tree : List ℕ) (p : ℕ) → D.is_member (rule_at (op_at tr
 unfolding rule_at
 member_same tree p = member_number (rule_of (op_at tree p))
 
-target_number : (v : T.Payload) (x : ℕ) → P.as_name 5 v 7 (λ n. 0) ≡ x → (k : ℕ) → D.target_refusal (get_or rules k (plain refused)) v ≡ cond (eqb k 16) 0 (cond (eqb k 13) 0 (cond (eqb k 34) 8 x))
+target_number : (v : T.Payload) (x : Option Refusal) → P.as_name 5 v 7 (λ n. 0) ≡ number_of_first x → (k : ℕ)
+    → D.target_refusal (get_or rules k (plain refused)) v ≡ number_of_first (cond (eqb k 16) None (cond (eqb k 13) None (cond (eqb k 34) (Some WriteToOtherMob) x)))
 unfolding D.target_refusal
-target_number v x e k = by_rule (λ (k : ℕ) (r : Rule). D.target_refusal r v ≡ cond (eqb k 16) 0 (cond (eqb k 13) 0 (cond (eqb k 34) 8 x))) refl refl refl e
+target_number v x e k = by_rule
+    (λ (k : ℕ) (r : Rule). D.target_refusal r v ≡ number_of_first (cond (eqb k 16) None (cond (eqb k 13) None (cond (eqb k 34) (Some WriteToOtherMob) x)))) refl refl refl e
     (λ k r a b c. rw (ne_eqb k 16 a, ne_eqb k 13 b, ne_eqb k 34 c) e) k
 
-pub target_same : (tree : List ℕ) (p : ℕ) → D.target_refusal (rule_at (op_at tree p)) (payload_at tree p) ≡ R.target_refusal tree p
+pub target_same : (tree : List ℕ) (p : ℕ) → D.target_refusal (rule_at (op_at tree p)) (payload_at tree p) ≡ number_of_first (R.target_refusal tree p)
 unfolding rule_at R.target_refusal
 target_same tree p =
-    target_number (payload_at tree p) (Q.as_name 5 (payload_ref_at tree p) 7 (λ n. 0))
-    (name_always tree (λ (x : ℕ) (g : Unit {0} → ℕ). x ≡ g tt) 5 p (λ n. 0) {d = 7} {D = λ z. 7} {F = λ r z. 0} refl (λ r. refl)) (rule_of (op_at tree p))
+    target_number (payload_at tree p) (Q.as_name 5 (payload_ref_at tree p) (Some Failed) (λ n. None))
+    (name_always tree (λ (x : ℕ) (g : Unit {0} → Option Refusal). x ≡ number_of_first (g tt)) 5 p (λ n. 0) {d = 7} {D = λ z. Some Failed} {F = λ r z. None} refl (λ r. refl)) (rule_of (op_at tree p))

@@ -1,4 +1,5 @@
 -- The rules without operands, members and arrays: each is what its definition says. Assumes nothing.
+use Rattle.answers.specs.declared.refusals.Refusal.TheVariants as Refusal
 use mathlib.Core.Path.{◌≡◌, refl, subst}
 use mathlib.Core.Bool.{Bool, true, false, cond}
 use mathlib.Core.List.{List}
@@ -66,7 +67,7 @@ module _ {tree : List ℕ} {c : Counts} (p : ℕ) where
         as_name_lem 4 p sound short (λ n. flagged (S.sets READS_ACTOR_VARS) (with_name n λ k. put (N.reading (N.load_var k q))))
         (as_name_lem 5 p sound short (λ n. with_temp n λ t. put (N.reading (N.load_temp t q)))
         (as_name_lem 3 p sound short (λ n. flagged (S.sets READS_CONTEXT) (with_name n λ k. put (N.reading (N.load_ctx k q))))
-        (failing_does 7)
+        (failing_does Refusal.Failed)
         (λ r t. flagged_does (S.sets READS_CONTEXT) (Y.flagged 8) (sets_move 8) (name_does r t (λ k. instr_does (N.reading (N.load_ctx k q)) (words k q).2))))
         (λ r t. temp_does r t (λ k. instr_does (N.reading (N.load_temp k q)) (words k q).1)))
         (λ r t. flagged_does (S.sets READS_ACTOR_VARS) (Y.flagged 2) (sets_move 2) (name_does r t (λ k. instr_does (N.reading (N.load_var k q)) (words k q).0))))
@@ -74,30 +75,30 @@ module _ {tree : List ℕ} {c : Counts} (p : ℕ) where
     -- behind a member's base
     pub member_put_lem : (last : NameRef) → TextOf tree last → Does tree (P.as_name 6 (payload_at tree p) (failing 7) (λ n. with_member (record { own = n; last = named tree last }) λ m. with_post (L.post_bits tree p) λ q. put (N.reading (N.member m q)))) c (R.member_put tree p last)
     unfolding R.member_put
-    member_put_lem last t = as_name_lem 6 p sound short (λ n. with_member (record { own = n; last = named tree last }) λ m. with_post (L.post_bits tree p) λ q. put (N.reading (N.member m q))) (failing_does 7) (λ r u. member_does r last u t (λ k. put_post_lem p (λ q. N.reading (N.member k q)) 9 0 k (λ q. (words k q).6)))
+    member_put_lem last t = as_name_lem 6 p sound short (λ n. with_member (record { own = n; last = named tree last }) λ m. with_post (L.post_bits tree p) λ q. put (N.reading (N.member m q))) (failing_does Refusal.Failed) (λ r u. member_does r last u t (λ k. put_post_lem p (λ q. N.reading (N.member k q)) 9 0 k (λ q. (words k q).6)))
 
 module _ {tree : List ℕ} {c : Counts} (p : ℕ) (sound : NodeSound tree p) (short : length tree ≤ 6144) (E : ℕ → Bool → Step) (C : ℕ → NameRef → Bool → Step) (Z : ℕ → Bool → Step) (xs : List Lowerings) (k : Children tree E C Z xs (count_at tree p) (first_at tree p)) where
   pub chained_does : (last : NameRef) → TextOf tree last → (l : Bool) → Does tree (D.chained (L.post_bits tree p) (payload_at tree p) xs (named tree last) l) c (R.chained tree E C Z p last l)
   unfolding D.chained R.chained
-  chained_does last t l = one_rel tree E C Z c (failing 7) (failing_does 7) (λ a. a.base (named tree last) l ⨾ P.as_name 6 (payload_at tree p) (failing 7) (λ n. with_member (record { own = n; last = named tree last }) λ m. with_post (L.post_bits tree p) λ q. put (N.reading (N.member m q)))) xs (count_at tree p) (first_at tree p) k
+  chained_does last t l = one_rel tree E C Z c (failing 7) (failing_does Refusal.Failed) (λ a. a.base (named tree last) l ⨾ P.as_name 6 (payload_at tree p) (failing 7) (λ n. with_member (record { own = n; last = named tree last }) λ m. with_post (L.post_bits tree p) λ q. put (N.reading (N.member m q)))) xs (count_at tree p) (first_at tree p) k
       (λ a ca. thens (ca.base_is last t l c) (member_put_lem p sound short last t))
 
   pub member_does' : (l : Bool) → Does tree (D.member_read (L.post_bits tree p) (payload_at tree p) xs l) c (R.member_read tree E C Z p l)
   unfolding D.member_read R.member_read
   member_does' l = flagged_does (λ f. S.sets USES_MEMBERS (S.not_float_only f)) (λ s. Y.flagged 16 (Y.not_float_only s)) (sets_not_move 16)
-      (as_name_lem 6 p sound short (λ n. D.chained (L.post_bits tree p) (payload_at tree p) xs n l) (failing_does 7) (λ r t. chained_does r t l))
+      (as_name_lem 6 p sound short (λ n. D.chained (L.post_bits tree p) (payload_at tree p) xs n l) (failing_does Refusal.Failed) (λ r t. chained_does r t l))
 
   pub array_does : (l : Bool) → Does tree (cond (eqb (be8 tree 0 5) 1) (D.array_element (L.post_bits tree p) (payload_at tree p) xs l) (failing 5)) c (R.array_element tree E C Z p l)
   unfolding D.array_element R.array_element R.array_put
   array_does l = go (eqb (be8 tree 0 5) 1)
     where
       inner : Does tree (P.just xs (failing 7) λ a. P.as_name 7 (payload_at tree p) (failing 7) λ n. flagged S.not_float_only (a.expr l ⨾ with_name n (λ k. with_post (L.post_bits tree p) λ q. put (N.reading (N.array_element k q))))) c
-          (λ h. cond (eqb (count_at tree p) 1) (Q.as_name 7 (payload_ref_at tree p) (W.failed 7 h) (λ n. L.with_name n (λ k. L.put_post tree p 8 0 k) (E (first_at tree p) l (still Y.not_float_only h)))) (W.failed 7 h))
-      inner = just_rel tree E C Z c (failing 7) (failing_does 7) (λ a. P.as_name 7 (payload_at tree p) (failing 7) λ n. flagged S.not_float_only (a.expr l ⨾ with_name n (λ k. with_post (L.post_bits tree p) λ q. put (N.reading (N.array_element k q))))) xs (count_at tree p) (first_at tree p) k
-          (λ a ca. as_name_lem 7 p sound short (λ n. flagged S.not_float_only (a.expr l ⨾ with_name n (λ k. with_post (L.post_bits tree p) λ q. put (N.reading (N.array_element k q))))) (failing_does 7)
+          (λ h. cond (eqb (count_at tree p) 1) (Q.as_name 7 (payload_ref_at tree p) (W.failed Refusal.Failed h) (λ n. L.with_name n (λ k. L.put_post tree p 8 0 k) (E (first_at tree p) l (still Y.not_float_only h)))) (W.failed Refusal.Failed h))
+      inner = just_rel tree E C Z c (failing 7) (failing_does Refusal.Failed) (λ a. P.as_name 7 (payload_at tree p) (failing 7) λ n. flagged S.not_float_only (a.expr l ⨾ with_name n (λ k. with_post (L.post_bits tree p) λ q. put (N.reading (N.array_element k q))))) xs (count_at tree p) (first_at tree p) k
+          (λ a ca. as_name_lem 7 p sound short (λ n. flagged S.not_float_only (a.expr l ⨾ with_name n (λ k. with_post (L.post_bits tree p) λ q. put (N.reading (N.array_element k q))))) (failing_does Refusal.Failed)
           (λ r t. flagged_does S.not_float_only Y.not_float_only not_float_move (thens (ca.expr_is l c) (name_does r t (λ k. put_post_lem p (λ q. N.reading (N.array_element k q)) 8 0 k (λ q. (words k q).5))))))
 
       go : (b : Bool) → Does tree (cond b (P.just xs (failing 7) λ a. P.as_name 7 (payload_at tree p) (failing 7) λ n. flagged S.not_float_only (a.expr l ⨾ with_name n (λ k. with_post (L.post_bits tree p) λ q. put (N.reading (N.array_element k q))))) (failing 5)) c
-          (λ h. cond b (cond (eqb (count_at tree p) 1) (Q.as_name 7 (payload_ref_at tree p) (W.failed 7 h) (λ n. L.with_name n (λ k. L.put_post tree p 8 0 k) (E (first_at tree p) l (still Y.not_float_only h)))) (W.failed 7 h)) (W.failed 5 h))
+          (λ h. cond b (cond (eqb (count_at tree p) 1) (Q.as_name 7 (payload_ref_at tree p) (W.failed Refusal.Failed h) (λ n. L.with_name n (λ k. L.put_post tree p 8 0 k) (E (first_at tree p) l (still Y.not_float_only h)))) (W.failed Refusal.Failed h)) (W.failed Refusal.UsesArrays h))
       go true = inner
-      go false = failing_does 5
+      go false = failing_does Refusal.UsesArrays

@@ -1,4 +1,5 @@
 -- What the lowering leaves in the workspace holds the program of the tree: the card can be written from it. Assumes nothing.
+use Rattle.answers.specs.Refusals.{number_of_first}
 use mathlib.Core.Path.{◌≡◌, refl, sym, ap, subst, ◌∙◌}
 use mathlib.Core.Bool.{Bool, true, false, cond, true≢false}
 use mathlib.Core.List.{List, [], ◌∷◌, ◌++◌, map}
@@ -346,7 +347,7 @@ module _ (tree words : List ℕ) (small : Bytes tree) (passed : questions tree �
       let r = whole_does.keep nothing_lowered (R.start, words) fits_main (begins tree words enough) in
       aim_at [] [] x.code false [] x.state g 0 0 0 refl fits_main r
 
-  pub refusal_is : (R.lowered tree words).0.refusal ≡ x.state.refusal
+  pub refusal_is : number_of_first (R.lowered tree words).0.refusal ≡ x.state.refusal
   refusal_is = content.beside.number_is
 
   -- the flags
