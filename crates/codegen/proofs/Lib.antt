@@ -1,2 +1,1 @@
-mod Clearing
 pub mod Outcome

@@ -1,4 +1,8 @@
 -- What is written and answered of a lowered tree is what the nine questions say. Assumes nothing.
+use Rattle.std.proofs.Common.{None, Some, Result, Ok, Err}
+use Rattle.answers.specs.Refusals.{number_of, number_of_first}
+use Rattle.answers.specs.declared.refusals.Refusal.{Refusal}
+use Rattle.answers.specs.declared.refusals.Refusal.TheVariants.{SmallWorkspace, NoTreeImage, Damaged, TooDeep, UsesArrays, UsesResources, Failed, WriteToOtherMob, SmallOutput}
 use mathlib.Core.Path.{◌≡◌, refl, sym, ap, subst, ◌∙◌}
 use mathlib.Core.Bool.{Bool, true, false, cond}
 use mathlib.Core.List.{List, [], ◌∷◌, ◌++◌}
@@ -19,7 +23,6 @@ use Rattle.semantics.specs.Demand3.{Agrees}
 use Rattle.semantics.proofs.Demand3.{demand3}
 use Rattle.semantics.proofs.Fitting.{program_fits, rest_fits}
 use Rattle.semantics.proofs.AcceptedTrees.{parsed_fits, parsed_short}
-use Rattle.card.specs.declared.Answer as C
 use Rattle.card.specs.Image.{image_of, laid, answer_of}
 use Rattle.card.proofs.Bridge.{image_is}
 use Rattle.card.specs.declared.Sections.{Sections}
@@ -28,7 +31,7 @@ use Rattle.builder.specs.Steps.{Held}
 use Rattle.lowering.specs.Rules as R
 use Rattle.representation.specs.Sections.{sections_of}
 use Rattle.representation.proofs.Whole.{holds, refusal_is}
-use Rattle.codegen.specs.Build.{told, zeros, Built, Asked}
+use Rattle.codegen.specs.Build.{shown, zeros, Built, Asked}
 
 -- a list whose every element is below 256 is one of bytes
 pub all_bytes : (s : List ℕ) → ((i : ℕ) → i < length s → get_or s i 0 < 256) → Bytes s
@@ -37,22 +40,40 @@ all_bytes (x ∷ s) h = (h 0 (omega arith), all_bytes s (λ i l. h (suc i) (omeg
 
 -- ---- questions 2 to 4
 
-pub refused_early : (tree out : List ℕ) (r : ℕ) → r ≡ questions tree → (r ≡ 0 → ⊥) → Asked tree out out (record { number = r; length = 0 })
+-- no refusal has the number of acceptance
+refuses : (why : Refusal) → number_of why ≡ 0 → ⊥
+refuses SmallWorkspace e = omega (arith, e)
+refuses NoTreeImage e = omega (arith, e)
+refuses Damaged e = omega (arith, e)
+refuses TooDeep e = omega (arith, e)
+refuses UsesArrays e = omega (arith, e)
+refuses UsesResources e = omega (arith, e)
+refuses Failed e = omega (arith, e)
+refuses WriteToOtherMob e = omega (arith, e)
+refuses SmallOutput e = omega (arith, e)
+
+early : (tree out : List ℕ) (r : ℕ) → r ≡ questions tree → (r ≡ 0 → ⊥) → Asked tree out out (record { number = r; length = 0 })
 unfolding refusal_of first S.answer_from S.written
-refused_early tree out zero e n = absurd (n refl)
-refused_early tree out (suc r) e n = record { answered = rw (← e); output = refl }
+early tree out zero e n = absurd (n refl)
+early tree out (suc r) e n = record { answered = rw (← e); output = refl }
+
+pub refused_early : (tree out : List ℕ) (why : Refusal) → number_of why ≡ questions tree → Asked tree out out (shown (Err why))
+refused_early tree out why e = early tree out (number_of why) e (refuses why)
 
 -- ---- questions 5 to 8
 
 module _ (tree words out : List ℕ) (small : Bytes tree) (passed : questions tree ≡ 0) (enough : 16384 ≤ length words) where
-  refusal : refusal_of tree ≡ (R.lowered tree words).0.refusal
+  refusal : refusal_of tree ≡ number_of_first (R.lowered tree words).0.refusal
   unfolding refusal_of first
   refusal = rw passed (sym (refusal_is tree words small passed enough))
 
-  pub refused_late : (r : ℕ) → (R.lowered tree words).0.refusal ≡ r → (r ≡ 0 → ⊥) → Asked tree out out (record { number = r; length = 0 })
+  late : (r : ℕ) → number_of_first (R.lowered tree words).0.refusal ≡ r → (r ≡ 0 → ⊥) → Asked tree out out (record { number = r; length = 0 })
   unfolding S.answer_from S.written
-  refused_late zero e n = absurd (n refl)
-  refused_late (suc r) e n = record { answered = rw (refusal ∙ e); output = refl }
+  late zero e n = absurd (n refl)
+  late (suc r) e n = record { answered = rw (refusal ∙ e); output = refl }
+
+  pub refused_late : (s : B.State) (w : List ℕ) (why : Refusal) → ◌≡◌ {A = Held} (s, w) (R.lowered tree words) → s.refusal ≡ Some why → Asked tree out out (shown (Err why))
+  refused_late s w why e z = late (number_of why) (ap number_of_first (sym (ap (λ (h : Held). h.0.refusal) e) ∙ z)) (refuses why)
 
   -- ---- question 9, and the image
 
@@ -63,28 +84,27 @@ module _ (tree words out : List ℕ) (small : Bytes tree) (passed : questions tr
       let n = rest_fits (settings tree) (parse tree) (parsed_fits tree small passed) (parsed_short tree small passed) in
       image_is tree (R.lowered tree words).1 (sections_of (R.lowered tree words).0) (program (settings tree) (parse tree)) (holds tree words small passed enough) f n
 
-  finished : (b : Bool) (card : List ℕ) (a : C.Answer) (out' : List ℕ) → a ≡ cond b (record { number = 0; length = length card }) (record { number = 9; length = 0 }) → out' ≡ cond b (card ++ drop (length card) out) out
-      → (told a ≡ cond b (record { number = 0; length = length card }) (record { number = 9; length = 0 })) × (out' ≡ S.written (told a).number card out)
-  unfolding S.written told
-  finished true card a out' e q = (ap told e, q ∙ sym (ap (λ (x : C.Answer). S.written x.number card out) e))
-  finished false card a out' e q = (ap told e, q ∙ sym (ap (λ (x : C.Answer). S.written x.number card out) e))
+  finished : (b : Bool) (card : List ℕ) (a : Result ℕ Refusal) (out' : List ℕ) → a ≡ cond b (Ok (length card)) (Err SmallOutput) → out' ≡ cond b (card ++ drop (length card) out) out
+      → (shown a ≡ cond b (record { number = 0; length = length card }) (record { number = 9; length = 0 })) × (out' ≡ S.written (shown a).number card out)
+  unfolding S.written
+  finished true card a out' e q = (ap shown e, q ∙ sym (ap (λ (x : Result ℕ Refusal). S.written (shown x).number card out) e))
+  finished false card a out' e q = (ap shown e, q ∙ sym (ap (λ (x : Result ℕ Refusal). S.written (shown x).number card out) e))
 
-  pub accepted : (R.lowered tree words).0.refusal ≡ 0 → (a : C.Answer) (out' : List ℕ) → a ≡ answer_of (image_of tree (R.lowered tree words).1 (sections_of (R.lowered tree words).0)) out → out' ≡ laid (image_of tree (R.lowered tree words).1 (sections_of (R.lowered tree words).0)) out
-      → Asked tree out out' (told a)
+  pub accepted : (R.lowered tree words).0.refusal ≡ None → (a : Result ℕ Refusal) (out' : List ℕ) → a ≡ answer_of (image_of tree (R.lowered tree words).1 (sections_of (R.lowered tree words).0)) out → out' ≡ laid (image_of tree (R.lowered tree words).1 (sections_of (R.lowered tree words).0)) out
+      → Asked tree out out' (shown a)
   unfolding S.answer_from answer_of laid
   accepted z a out' e q =
       let c = program_image tree in
       let e' : a ≡ answer_of c out = e ∙ ap (λ (x : List ℕ). answer_of x out) image in
       let q' : out' ≡ laid c out = q ∙ ap (λ (x : List ℕ). laid x out) image in
       let d = finished (leb (length c) (length out)) c a out' e' q' in
-      record { answered = rw (refusal ∙ z) d.0; output = d.1 }
+      record { answered = rw (refusal ∙ ap number_of_first z) d.0; output = d.1 }
 
   -- the same of what the calls gave
-  pub accepted_as : (s : B.State) (w : List ℕ) (c : Sections) (a : C.Answer) (r : S.Answer) (out' : List ℕ) → ◌≡◌ {A = Held} (s, w) (R.lowered tree words) → s.refusal ≡ 0 → c ≡ sections_of s → a ≡ answer_of (image_of tree w c) out → out' ≡ laid (image_of tree w c) out → r ≡ told a → Asked tree out out' r
-  accepted_as s w c a r out' e z k f q t =
+  pub accepted_as : (s : B.State) (w : List ℕ) (c : Sections) (a : Result ℕ Refusal) (out' : List ℕ) → ◌≡◌ {A = Held} (s, w) (R.lowered tree words) → s.refusal ≡ None → c ≡ sections_of s → a ≡ answer_of (image_of tree w c) out → out' ≡ laid (image_of tree w c) out → Asked tree out out' (shown a)
+  accepted_as s w c a out' e z k f q =
       let i : image_of tree w c ≡ image_of tree (R.lowered tree words).1 (sections_of (R.lowered tree words).0) = ap (image_of tree w) k ∙ ap (λ (h : Held). image_of tree h.1 (sections_of h.0)) e in
-      let h = accepted (sym (ap (λ (h : Held). h.0.refusal) e) ∙ z) a out' (f ∙ ap (λ (x : List ℕ). answer_of x out) i) (q ∙ ap (λ (x : List ℕ). laid x out) i) in
-      subst (λ (x : S.Answer). Asked tree out out' x) (sym t) h
+      accepted (sym (ap (λ (h : Held). h.0.refusal) e) ∙ z) a out' (f ∙ ap (λ (x : List ℕ). answer_of x out) i) (q ∙ ap (λ (x : List ℕ). laid x out) i)
 
 -- ---- the whole
 
@@ -128,7 +148,7 @@ built tree words out words' out' a small enough h w =
     }
 
 -- question 1
-pub too_short : (tree words out : List ℕ) → length words < 16384 → Built tree words out words out (record { number = 1; length = 0 })
+pub too_short : (tree words out : List ℕ) → length words < 16384 → Built tree words out words out (shown (Err SmallWorkspace))
 unfolding S.answer S.output_after S.workspace_after S.written
 too_short tree words out h =
     let b = lt-leb 16384 (length words) h in

@@ -1,17 +1,16 @@
 -- What `build` promises. Definitions only: the questions, images and runs that it names stand in crate semantics.
-use Rattle.std.specs.Prelude.{◌≡◌, Bool, cond, List, ℕ, ◌+◌, ◌*◌, eqb, length, take, replicate}
+use Rattle.std.specs.Prelude.{◌≡◌, Bool, List, ℕ, ◌+◌, ◌*◌, length, take, replicate, Result, Ok, Err}
+use Rattle.answers.specs.declared.refusals.Refusal.{Refusal}
+use Rattle.answers.specs.Refusals.{ACCEPTED, number_of}
 use Rattle.workspace.specs.Layout.{WORDS}
 use Rattle.semantics.specs.Answer as S
-use Rattle.card.specs.declared.Answer as C
 use Rattle.semantics.specs.Link.{refusal_of, program_image}
 use Rattle.semantics.specs.Demand3.{Agrees}
-use Rattle.codegen.specs.declared.Answer.{Answer}
-use Rattle.codegen.specs.declared.Answer.TheVariants.{Accepted, Refused}
 
 -- 01, The form each place takes: "For an answer that is an enum, a definition gives this paper's number and values for each case of the enum."
-abbrev pub shown : Answer → S.Answer
-shown (Accepted n) = record { number = 0; length = n }
-shown (Refused r) = record { number = r; length = 0 }
+abbrev pub shown : Result ℕ Refusal → S.Answer
+shown (Ok n) = record { number = ACCEPTED; length = n }
+shown (Err why) = record { number = number_of why; length = 0 }
 
 -- the answer as one number: the refusal's number * 2^32 + the length
 abbrev pub packed : S.Answer → ℕ
@@ -33,10 +32,6 @@ pub record Packed (tree words out words' out' : List ℕ) (r : ℕ) : Type 0 whe
   pub answer : S.Answer
   pub number : r ≡ packed answer
   pub call : Built tree words out words' out' answer
-
--- what the card's writer answered; a refusal has no length
-unfoldable pub told : C.Answer → S.Answer
-told a = record { number = a.number; length = cond (eqb a.number 0) a.length 0 }
 
 -- a cleared workspace
 unfoldable pub zeros : List ℕ

@@ -1,34 +1,27 @@
 // The generator: a tree image to its program image, over a lent workspace.
 #![tactic(auto)]
 
-ghost use Rattle.std.specs.Prelude.{◌≡◌, cond, false, ◌≤◌, length, replicate};
+ghost use Rattle.std.specs.Prelude.{◌≡◌, cond, false, ◌≤◌, length};
 ghost use Rattle.std.specs.Int.Bits.{bit_and};
 ghost use Rattle.workspace.specs.Layout.{WORDS};
 ghost use Rattle.ast.specs.Questions.{questions};
 ghost use Rattle.program.specs.Kinds.{NOT_FLOAT};
 ghost use Rattle.representation.specs.Sections.{sections_of};
-ghost use Rattle.codegen.specs.Build.{shown, packed, told, zeros, Built, Packed, Asked};
+ghost use Rattle.codegen.specs.Build.{shown, packed, zeros, Built, Packed, Asked};
 
-use answers::refusals;
+use answers::refusals::Refusal;
 use builder::State;
 use card::Sections;
 use program::Flags;
 use workspace::layout;
 
-// The image's length, or the number of the first question that is answered by no.
-#[derive(Clone, Copy)]
-pub enum Answer {
-    Accepted(usize),
-    Refused(u8),
-}
-
-// The nine questions in order; the program image in `out` where all are answered by yes.
-pub fn build(tree: &[u8], workspace: &mut [u32], out: &mut [u8]) -> Answer
+// The nine questions in order; the program image in `out` where all are answered by yes. The image's length, or the first question that is answered by no.
+pub fn build(tree: &[u8], workspace: &mut [u32], out: &mut [u8]) -> Result<usize, Refusal>
     ensures { Built tree.now workspace.old out.old workspace.new out.new (shown result) }
 {
     let small = workspace.len() < layout::WORDS;
     if small {
-        return Answer::Refused(refusals::SMALL_WORKSPACE);
+        return Err(Refusal::SmallWorkspace);
     }
     inside(tree, &mut workspace[..layout::WORDS], out)
 }
@@ -41,70 +34,46 @@ pub fn molang_build(tree: &[u8], workspace: &mut [u32], out: &mut [u8]) -> u64
     pack(a)
 }
 
-fn pack(a: Answer) -> u64
+fn pack(a: Result<usize, Refusal>) -> u64
     ensures { result ≡ packed (shown a) }
 {
     match a {
-        Answer::Accepted(n) => n as u64,
-        Answer::Refused(r) => (r as u64) * 4294967296,
+        Ok(n) => n as u64,
+        Err(why) => u64::from(why.number()) * 4294967296,
     }
 }
 
 // Questions 2 to 9 in a workspace of 16,384 words, which is cleared afterwards.
-fn inside(tree: &[u8], ws: &mut [u32], out: &mut [u8]) -> Answer
+fn inside(tree: &[u8], ws: &mut [u32], out: &mut [u8]) -> Result<usize, Refusal>
     requires { length ws.old ≡ WORDS }
     ensures { Asked tree.now out.old out.new (shown result) × (ws.new ≡ zeros) }
 {
     let a = asked(tree, ws, out);
-    clear(ws);
+    ws.fill(0);
     a
 }
 
-// Every word is made 0.
-fn clear(ws: &mut [u32])
-    ensures { ws.new ≡ replicate (length ws.old) 0 }
-{
-    let mut i: usize = 0;
-    while i < ws.len() {
-        ws[i] = 0;
-        i += 1;
-    }
-}
-
 // Questions 2 to 9.
-fn asked(tree: &[u8], ws: &mut [u32], out: &mut [u8]) -> Answer
+fn asked(tree: &[u8], ws: &mut [u32], out: &mut [u8]) -> Result<usize, Refusal>
     requires { WORDS ≤ length ws.old }
     ensures { Asked tree.now out.old out.new (shown result) }
 {
-    let r = questions::check_image(tree);
-    if r != refusals::ACCEPTED {
-        return Answer::Refused(r);
-    }
+    questions::check_image(tree)?;
     generate(tree, ws, out)
 }
 
 // Questions 5 to 9, of an image that questions 2 to 4 let pass.
-fn generate(tree: &[u8], ws: &mut [u32], out: &mut [u8]) -> Answer
+fn generate(tree: &[u8], ws: &mut [u32], out: &mut [u8]) -> Result<usize, Refusal>
     requires { (WORDS ≤ length ws.old) × (questions tree.now ≡ 0) }
     ensures { Asked tree.now out.old out.new (shown result) }
 {
     let s = lowering::lower(tree, ws);
-    let refused = s.refusal != refusals::ACCEPTED;
-    if refused {
-        return Answer::Refused(s.refusal);
+    let refused = s.refusal;
+    if let Some(why) = refused {
+        return Err(why);
     }
     let c = sections(s);
-    let a = card::finish(tree, ws, c, out);
-    answered(a)
-}
-
-fn answered(a: card::Answer) -> Answer
-    ensures { shown result ≡ told a }
-{
-    if a.number != refusals::ACCEPTED {
-        return Answer::Refused(a.number);
-    }
-    Answer::Accepted(a.length)
+    card::finish(tree, ws, c, out)
 }
 
 // What is to be written of a lowered tree: how much of each region, and the closing fields.
