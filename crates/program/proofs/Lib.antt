@@ -1,4 +1,3 @@
 pub mod ReadBack
 pub mod Limits
 pub mod Length
-pub mod Missed

@@ -1,5 +1,7 @@
 -- 01, The program image: "Opcodes follow `Instr` without its stdlib arms, Const 1 to End 48." Definitions only.
-use Rattle.std.specs.Prelude.{ℕ}
+use Rattle.std.specs.Prelude.{◌≡◌, ◌<◌, ◌⊎◌, ℕ}
+use Rattle.program.specs.declared.opcodes.Opcode.{Opcode}
+use Rattle.program.specs.declared.opcodes.Opcode.TheVariants as Op
 
 abbrev pub CONST : ℕ
 CONST = 1
@@ -144,3 +146,58 @@ HALT = 47
 
 abbrev pub END : ℕ
 END = 48
+
+-- the number of each
+abbrev pub number_of : Opcode → ℕ
+number_of Op.Const = CONST
+number_of Op.Hash = HASH
+number_of Op.Resource = RESOURCE
+number_of Op.This = THIS
+number_of Op.LoadVar = LOAD_VAR
+number_of Op.LoadTemp = LOAD_TEMP
+number_of Op.LoadCtx = LOAD_CTX
+number_of Op.ArrayElement = ARRAY_ELEMENT
+number_of Op.Member = MEMBER
+number_of Op.StoreVar = STORE_VAR
+number_of Op.StoreTemp = STORE_TEMP
+number_of Op.StoreMember = STORE_MEMBER
+number_of Op.Push = PUSH
+number_of Op.PushConst = PUSH_CONST
+number_of Op.Negate = NEGATE
+number_of Op.Not = NOT
+number_of Op.AddAcc = ADD_ACC
+number_of Op.AddLast = ADD_LAST
+number_of Op.Mul = MUL
+number_of Op.DivGuard = DIV_GUARD
+number_of Op.Div = DIV
+number_of Op.HostMath = HOST_MATH
+number_of Op.Cmp = CMP
+number_of Op.CmpConst = CMP_CONST
+number_of Op.Eq = EQ
+number_of Op.EqConst = EQ_CONST
+number_of Op.EqHash = EQ_HASH
+number_of Op.AndStep = AND_STEP
+number_of Op.OrStep = OR_STEP
+number_of Op.AndLast = AND_LAST
+number_of Op.OrLast = OR_LAST
+number_of Op.Jump = JUMP
+number_of Op.JumpIfFalsy = JUMP_IF_FALSY
+number_of Op.Post = POST
+number_of Op.HandlerPush = HANDLER_PUSH
+number_of Op.HandlerPop = HANDLER_POP
+number_of Op.PointerEnter = POINTER_ENTER
+number_of Op.PointerLeave = POINTER_LEAVE
+number_of Op.Call = CALL
+number_of Op.LoopBegin = LOOP_BEGIN
+number_of Op.LoopCheck = LOOP_CHECK
+number_of Op.LoopEnd = LOOP_END
+number_of Op.EachBegin = EACH_BEGIN
+number_of Op.EachNextVar = EACH_NEXT_VAR
+number_of Op.EachNextTemp = EACH_NEXT_TEMP
+number_of Op.Return = RETURN
+number_of Op.Halt = HALT
+number_of Op.End = END
+
+-- a number that is no opcode's
+abbrev pub NoOpcode : ℕ → Type 0
+NoOpcode n = (n ≡ 0) ⊎ (END < n)

@@ -3,7 +3,7 @@ use Rattle.std.specs.Prelude.{List, [], ◌∷◌, cond, ℕ, eqb}
 use Rattle.program.specs.Opcodes as O
 
 -- base where the opcode is one of these, else 0
-unfoldable pub among : List ℕ → ℕ → ℕ → ℕ
+abbrev pub among : List ℕ → ℕ → ℕ → ℕ
 among [] op base = 0
 among (k ∷ ks) op base = cond (eqb op k) base (among ks op base)
 
@@ -14,5 +14,5 @@ leading =
     ∷ O.JUMP_IF_FALSY ∷ O.JUMP ∷ O.OR_STEP ∷ O.AND_STEP ∷ O.DIV_GUARD ∷ []
 
 -- what is added to A: a start where A is a target
-unfoldable pub shift_of : ℕ → ℕ → ℕ
+abbrev pub shift_of : ℕ → ℕ → ℕ
 shift_of op base = among leading op base

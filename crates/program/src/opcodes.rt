@@ -1,97 +1,128 @@
-// The opcodes, in the order of `Instr`.
+// The opcodes, in the order of `Instr`, each with its number on the card.
+ghost use Rattle.std.specs.Prelude.{◌≡◌, MatchResult};
+ghost use Rattle.program.specs.Opcodes.{number_of, NoOpcode};
 
-pub const CONST: u8 = 1;
+#[derive(Clone, Copy, Debug, PartialEq, Eq)]
+pub enum Opcode {
+    Const = 1,
+    Hash = 2,
+    Resource = 3,
+    This = 4,
+    LoadVar = 5,
+    LoadTemp = 6,
+    LoadCtx = 7,
+    ArrayElement = 8,
+    Member = 9,
+    StoreVar = 10,
+    StoreTemp = 11,
+    StoreMember = 12,
+    Push = 13,
+    PushConst = 14,
+    Negate = 15,
+    Not = 16,
+    AddAcc = 17,
+    AddLast = 18,
+    Mul = 19,
+    DivGuard = 20,
+    Div = 21,
+    HostMath = 22,
+    Cmp = 23,
+    CmpConst = 24,
+    Eq = 25,
+    EqConst = 26,
+    EqHash = 27,
+    AndStep = 28,
+    OrStep = 29,
+    AndLast = 30,
+    OrLast = 31,
+    Jump = 32,
+    JumpIfFalsy = 33,
+    Post = 34,
+    HandlerPush = 35,
+    HandlerPop = 36,
+    PointerEnter = 37,
+    PointerLeave = 38,
+    Call = 39,
+    LoopBegin = 40,
+    LoopCheck = 41,
+    LoopEnd = 42,
+    EachBegin = 43,
+    EachNextVar = 44,
+    EachNextTemp = 45,
+    Return = 46,
+    Halt = 47,
+    End = 48,
+}
 
-pub const HASH: u8 = 2;
+impl Opcode {
+    // The first byte of an instruction.
+    pub fn number(self) -> u8
+        ensures { result ≡ number_of self }
+    {
+        self as u8
+    }
+}
 
-pub const RESOURCE: u8 = 3;
+// A number that is no opcode's.
+#[derive(Clone, Copy, Debug, PartialEq, Eq)]
+pub struct UnknownOpcode(pub u8);
 
-pub const THIS: u8 = 4;
+impl TryFrom<u8> for Opcode {
+    type Error = UnknownOpcode;
 
-pub const LOAD_VAR: u8 = 5;
+    ghost try_from_gives = { λ number r. MatchResult r (λ op. number_of op ≡ number) (λ e. (e.0 ≡ number) × NoOpcode number) };
 
-pub const LOAD_TEMP: u8 = 6;
-
-pub const LOAD_CTX: u8 = 7;
-
-pub const ARRAY_ELEMENT: u8 = 8;
-
-pub const MEMBER: u8 = 9;
-
-pub const STORE_VAR: u8 = 10;
-
-pub const STORE_TEMP: u8 = 11;
-
-pub const STORE_MEMBER: u8 = 12;
-
-pub const PUSH: u8 = 13;
-
-pub const PUSH_CONST: u8 = 14;
-
-pub const NEGATE: u8 = 15;
-
-pub const NOT: u8 = 16;
-
-pub const ADD_ACC: u8 = 17;
-
-pub const ADD_LAST: u8 = 18;
-
-pub const MUL: u8 = 19;
-
-pub const DIV_GUARD: u8 = 20;
-
-pub const DIV: u8 = 21;
-
-pub const HOST_MATH: u8 = 22;
-
-pub const CMP: u8 = 23;
-
-pub const CMP_CONST: u8 = 24;
-
-pub const EQ: u8 = 25;
-
-pub const EQ_CONST: u8 = 26;
-
-pub const EQ_HASH: u8 = 27;
-
-pub const AND_STEP: u8 = 28;
-
-pub const OR_STEP: u8 = 29;
-
-pub const AND_LAST: u8 = 30;
-
-pub const OR_LAST: u8 = 31;
-
-pub const JUMP: u8 = 32;
-
-pub const JUMP_IF_FALSY: u8 = 33;
-
-pub const POST: u8 = 34;
-
-pub const HANDLER_PUSH: u8 = 35;
-
-pub const HANDLER_POP: u8 = 36;
-
-pub const POINTER_ENTER: u8 = 37;
-
-pub const POINTER_LEAVE: u8 = 38;
-
-pub const CALL: u8 = 39;
-
-pub const LOOP_BEGIN: u8 = 40;
-
-pub const LOOP_CHECK: u8 = 41;
-
-pub const LOOP_END: u8 = 42;
-
-pub const EACH_BEGIN: u8 = 43;
-
-pub const EACH_NEXT_VAR: u8 = 44;
-
-pub const EACH_NEXT_TEMP: u8 = 45;
-
-pub const RETURN: u8 = 46;
-
-pub const HALT: u8 = 47;
-
-pub const END: u8 = 48;
+    fn try_from(number: u8) -> Result<Self, UnknownOpcode> {
+        match number {
+            1 => Ok(Opcode::Const),
+            2 => Ok(Opcode::Hash),
+            3 => Ok(Opcode::Resource),
+            4 => Ok(Opcode::This),
+            5 => Ok(Opcode::LoadVar),
+            6 => Ok(Opcode::LoadTemp),
+            7 => Ok(Opcode::LoadCtx),
+            8 => Ok(Opcode::ArrayElement),
+            9 => Ok(Opcode::Member),
+            10 => Ok(Opcode::StoreVar),
+            11 => Ok(Opcode::StoreTemp),
+            12 => Ok(Opcode::StoreMember),
+            13 => Ok(Opcode::Push),
+            14 => Ok(Opcode::PushConst),
+            15 => Ok(Opcode::Negate),
+            16 => Ok(Opcode::Not),
+            17 => Ok(Opcode::AddAcc),
+            18 => Ok(Opcode::AddLast),
+            19 => Ok(Opcode::Mul),
+            20 => Ok(Opcode::DivGuard),
+            21 => Ok(Opcode::Div),
+            22 => Ok(Opcode::HostMath),
+            23 => Ok(Opcode::Cmp),
+            24 => Ok(Opcode::CmpConst),
+            25 => Ok(Opcode::Eq),
+            26 => Ok(Opcode::EqConst),
+            27 => Ok(Opcode::EqHash),
+            28 => Ok(Opcode::AndStep),
+            29 => Ok(Opcode::OrStep),
+            30 => Ok(Opcode::AndLast),
+            31 => Ok(Opcode::OrLast),
+            32 => Ok(Opcode::Jump),
+            33 => Ok(Opcode::JumpIfFalsy),
+            34 => Ok(Opcode::Post),
+            35 => Ok(Opcode::HandlerPush),
+            36 => Ok(Opcode::HandlerPop),
+            37 => Ok(Opcode::PointerEnter),
+            38 => Ok(Opcode::PointerLeave),
+            39 => Ok(Opcode::Call),
+            40 => Ok(Opcode::LoopBegin),
+            41 => Ok(Opcode::LoopCheck),
+            42 => Ok(Opcode::LoopEnd),
+            43 => Ok(Opcode::EachBegin),
+            44 => Ok(Opcode::EachNextVar),
+            45 => Ok(Opcode::EachNextTemp),
+            46 => Ok(Opcode::Return),
+            47 => Ok(Opcode::Halt),
+            48 => Ok(Opcode::End),
+            _ => Err(UnknownOpcode(number)),
+        }
+    }
+}

@@ -1,17 +1,48 @@
-// The subs that have a name: of Cmp and CmpConst; of Eq, EqConst and EqHash; of DivGuard.
+// The subs that have a name, each with its number on the card: of Cmp and CmpConst; of Eq, EqConst and EqHash; of DivGuard.
+ghost use Rattle.std.specs.Prelude.{◌≡◌};
+ghost use Rattle.program.specs.Subs.{comparison_of, equality_of, divisor_of};
 
-pub const LT: u8 = 0;
+#[derive(Clone, Copy, Debug, PartialEq, Eq)]
+pub enum Comparison {
+    Lt = 0,
+    Le = 1,
+    Ge = 2,
+    Gt = 3,
+}
 
-pub const LE: u8 = 1;
+impl Comparison {
+    pub fn number(self) -> u8
+        ensures { result ≡ comparison_of self }
+    {
+        self as u8
+    }
+}
 
-pub const GE: u8 = 2;
+#[derive(Clone, Copy, Debug, PartialEq, Eq)]
+pub enum Equality {
+    Eq = 0,
+    Ne = 1,
+}
 
-pub const GT: u8 = 3;
+impl Equality {
+    pub fn number(self) -> u8
+        ensures { result ≡ equality_of self }
+    {
+        self as u8
+    }
+}
 
-pub const EQ: u8 = 0;
+// What a division by a divisor near 0 does with its sign.
+#[derive(Clone, Copy, Debug, PartialEq, Eq)]
+pub enum Divisor {
+    Signed = 0,
+    Absolute = 1,
+}
 
-pub const NE: u8 = 1;
-
-pub const SIGNED: u8 = 0;
-
-pub const ABSOLUTE: u8 = 1;
+impl Divisor {
+    pub fn number(self) -> u8
+        ensures { result ≡ divisor_of self }
+    {
+        self as u8
+    }
+}

@@ -2,26 +2,26 @@
 ghost use Rattle.std.specs.Prelude.{◌≡◌};
 ghost use Rattle.program.specs.Targets.{shift_of};
 
-use crate::opcodes;
+use crate::opcodes::Opcode;
 
 // What is added to an instruction's A: `base` where A is a target.
 pub fn shift(op: u8, base: u32) -> u32
     ensures { result ≡ shift_of op base }
 {
-    match op {
-        opcodes::DIV_GUARD => base,
-        opcodes::AND_STEP => base,
-        opcodes::OR_STEP => base,
-        opcodes::JUMP => base,
-        opcodes::JUMP_IF_FALSY => base,
-        opcodes::HANDLER_PUSH => base,
-        opcodes::HANDLER_POP => base,
-        opcodes::POINTER_ENTER => base,
-        opcodes::LOOP_BEGIN => base,
-        opcodes::LOOP_CHECK => base,
-        opcodes::EACH_BEGIN => base,
-        opcodes::EACH_NEXT_VAR => base,
-        opcodes::EACH_NEXT_TEMP => base,
+    match Opcode::try_from(op) {
+        Ok(Opcode::DivGuard) => base,
+        Ok(Opcode::AndStep) => base,
+        Ok(Opcode::OrStep) => base,
+        Ok(Opcode::Jump) => base,
+        Ok(Opcode::JumpIfFalsy) => base,
+        Ok(Opcode::HandlerPush) => base,
+        Ok(Opcode::HandlerPop) => base,
+        Ok(Opcode::PointerEnter) => base,
+        Ok(Opcode::LoopBegin) => base,
+        Ok(Opcode::LoopCheck) => base,
+        Ok(Opcode::EachBegin) => base,
+        Ok(Opcode::EachNextVar) => base,
+        Ok(Opcode::EachNextTemp) => base,
         _ => 0,
     }
 }
