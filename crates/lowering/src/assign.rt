@@ -14,7 +14,8 @@ use answers::refusals::Refusal;
 use ast::operators;
 use builder::State;
 use payload::Payload;
-use program::{Flags, NameIdx, PostIdx, StoreIdx, TempIdx, opcodes};
+use program::opcodes::Opcode;
+use program::{Flags, NameIdx, PostIdx, StoreIdx, TempIdx};
 use workspace::counts::one_more;
 use workspace::layout;
 
@@ -172,7 +173,7 @@ fn store_as(
     let first = st.paths;
     let s = path_hashes(tree, at, ws, st, levels);
     let e = add_store(ws, s, root, first, count);
-    store_instr(ws, e, opcodes::STORE_MEMBER, 0, q)
+    store_instr(ws, e, Opcode::StoreMember, 0, q)
 }
 
 fn root_temp(
@@ -241,7 +242,7 @@ fn store_temp(tree: &[u8], at: usize, ws: &mut [u32], st: State, levels: u16, q:
         return store_member(tree, at, ws, st, levels, q);
     };
     let e = interning::temp(ws, st, n);
-    temp_instr(ws, e, opcodes::STORE_TEMP, 0, q)
+    temp_instr(ws, e, Opcode::StoreTemp, 0, q)
 }
 
 fn store_var(tree: &[u8], at: usize, ws: &mut [u32], st: State, levels: u16, q: PostIdx) -> State
@@ -252,7 +253,7 @@ fn store_var(tree: &[u8], at: usize, ws: &mut [u32], st: State, levels: u16, q: 
         return store_temp(tree, at, ws, st, levels, q);
     };
     let e = interning::name(ws, st, n);
-    name_instr(ws, e, opcodes::STORE_VAR, 0, q)
+    name_instr(ws, e, Opcode::StoreVar, 0, q)
 }
 
 // A store to the target at `at`, of so many levels, with the post of the node `from`.

@@ -10,7 +10,8 @@ use crate::interning::CallEntry;
 use crate::parts::instr;
 use crate::{pools, regions};
 use builder::{State, segments};
-use program::{CallIdx, opcodes};
+use program::CallIdx;
+use program::opcodes::Opcode;
 use workspace::counts::sum;
 use workspace::layout;
 
@@ -60,7 +61,7 @@ fn put_start(ws: &mut [u32], slot: u16, start: u16)
 pub(crate) fn end_argument(ws: &mut [u32], st: State, base: u16, waiting: bool, slot: u16) -> State
     ensures { ◌≡◌ {A = Held} (result, ws.new) (argument_closed base waiting slot (st, ws.old)) }
 {
-    let s = instr(ws, st, opcodes::END, 0, 0, 0);
+    let s = instr(ws, st, Opcode::End, 0, 0, 0);
     segments::resolve_breaks(ws, s, 0, 0, 0);
     let start = s.finished;
     let e = segments::close_segment(ws, s, base, waiting);

@@ -12,7 +12,8 @@ use crate::parts::{emit_jump, instr, place_target};
 use answers::refusals::Refusal;
 use builder::{State, segments};
 use payload::Payload;
-use program::{NameIdx, TempIdx, opcodes};
+use program::opcodes::Opcode;
+use program::{NameIdx, TempIdx};
 use workspace::counts::one_more;
 
 // A Break or Continue that waits for its loop; Halt where none is open.
@@ -22,7 +23,7 @@ pub(crate) fn jump_out(ws: &mut [u32], st: State, waits: u32, looping: bool) -> 
     if looping {
         return builder::put(ws, st, waits, 0);
     }
-    instr(ws, st, opcodes::HALT, 0, 0, 0)
+    instr(ws, st, Opcode::Halt, 0, 0, 0)
 }
 
 // Behind the body of the loop whose LoopBegin stands at `at`.
@@ -31,8 +32,8 @@ pub(crate) fn close_loop(ws: &mut [u32], st: State, at: u16) -> State
 {
     let check = segments::place(st);
     segments::resolve_breaks(ws, st, one_more(at), check as u32, (check as u32) + 1);
-    let s = instr(ws, st, opcodes::LOOP_CHECK, 0, (at as u32) + 1, 0);
-    let e = instr(ws, s, opcodes::LOOP_END, 0, 0, 0);
+    let s = instr(ws, st, Opcode::LoopCheck, 0, (at as u32) + 1, 0);
+    let e = instr(ws, s, Opcode::LoopEnd, 0, 0, 0);
     place_target(ws, e, at)
 }
 
@@ -42,9 +43,9 @@ pub(crate) fn close_each(ws: &mut [u32], st: State, begin: u16, next: u16) -> St
 {
     let back = segments::place(st);
     segments::resolve_breaks(ws, st, one_more(next), next as u32, (back as u32) + 1);
-    let s = instr(ws, st, opcodes::JUMP, 0, next as u32, 0);
+    let s = instr(ws, st, Opcode::Jump, 0, next as u32, 0);
     let t = place_target(ws, s, next);
-    let e = instr(ws, t, opcodes::LOOP_END, 0, 0, 0);
+    let e = instr(ws, t, Opcode::LoopEnd, 0, 0, 0);
     place_target(ws, e, begin)
 }
 
@@ -67,8 +68,8 @@ pub(crate) fn each_next(ws: &mut [u32], st: State, index: EachIndex) -> Entry
     ensures { ◌≡◌ {A = Found} (result, ws.new) (each_next index (st, ws.old)) }
 {
     match index {
-        EachIndex::Name(n) => emit_jump(ws, st, opcodes::EACH_NEXT_VAR, 0, n.0),
-        EachIndex::Temp(n) => emit_jump(ws, st, opcodes::EACH_NEXT_TEMP, 0, n.0),
+        EachIndex::Name(n) => emit_jump(ws, st, Opcode::EachNextVar, 0, n.0),
+        EachIndex::Temp(n) => emit_jump(ws, st, Opcode::EachNextTemp, 0, n.0),
         EachIndex::Refused => Entry {
             state: st,
             index: segments::place(st),

@@ -18,6 +18,8 @@ ghost use Rattle.std.specs.Prelude.{◌≡◌, List, false, ◌-◌, ◌≤◌, 
 ghost use Rattle.wire.specs.Bytes.{be8};
 ghost use Rattle.ast.specs.Node.{first_at, count_at};
 ghost use Rattle.program.specs.Image.{bit};
+ghost use Rattle.program.specs.Opcodes.{number_of};
+ghost use Rattle.program.specs.Subs.{comparison_of, equality_of, divisor_of};
 ghost use Rattle.builder.specs.Steps.{Held};
 ghost use Rattle.lowering.specs.Parts.{each_next};
 ghost use Rattle.lowering.specs.Rules as R;
@@ -30,7 +32,9 @@ use control::EachIndex;
 use depth::Depth;
 use parts::{emit_jump, instr, place_target, post, post_instr, put_post};
 use payload::{NameRef, Payload};
-use program::{Depths, Flags, PostIdx, opcodes, subs};
+use program::opcodes::Opcode;
+use program::subs::{Comparison, Divisor, Equality};
+use program::{Depths, Flags, PostIdx};
 use steps::{flag, not_float_only, pop};
 use workspace::counts::one_more;
 
@@ -48,7 +52,7 @@ pub fn lower(tree: &[u8], ws: &mut [u32]) -> State
         header::LEVELS,
         &table,
     );
-    let e = instr(ws, s, opcodes::END, 0, 0, 0);
+    let e = instr(ws, s, Opcode::End, 0, 0, 0);
     segments::resolve_breaks(ws, e, 0, 0, 0);
     e
 }
@@ -107,7 +111,7 @@ fn leaf(tree: &[u8], at: usize, ws: &mut [u32], st: State, looping: bool, rule: 
         operators::GEOMETRY => values::resource(tree, at, ws, st),
         operators::MATERIAL => values::resource(tree, at, ws, st),
         operators::TEXTURE => values::resource(tree, at, ws, st),
-        operators::THIS => put_post(tree, at, ws, st, opcodes::THIS, 0, 0),
+        operators::THIS => put_post(tree, at, ws, st, Opcode::This, 0, 0),
         operators::ENTITY_VARIABLE => values::load(tree, at, ws, st),
         operators::TEMP_VARIABLE => values::load(tree, at, ws, st),
         operators::CONTEXT_VARIABLE => values::load(tree, at, ws, st),
@@ -147,19 +151,19 @@ fn expr(
         operators::ARRAY => element(tree, at, ws, st, looping, n, table),
         operators::MEMBER_ACCESSOR => member(tree, at, ws, st, looping, n, table),
         operators::QUERY_FUNCTION => query(tree, at, ws, st, n, table),
-        operators::LESS_THAN => compare(tree, at, ws, st, subs::LT, looping, n, table),
-        operators::LESS_EQUAL => compare(tree, at, ws, st, subs::LE, looping, n, table),
-        operators::GREATER_EQUAL => compare(tree, at, ws, st, subs::GE, looping, n, table),
-        operators::GREATER_THAN => compare(tree, at, ws, st, subs::GT, looping, n, table),
-        operators::LOGICAL_EQUAL => equal(tree, at, ws, st, subs::EQ, looping, n, table),
-        operators::LOGICAL_NOT_EQUAL => equal(tree, at, ws, st, subs::NE, looping, n, table),
+        operators::LESS_THAN => compare(tree, at, ws, st, Comparison::Lt, looping, n, table),
+        operators::LESS_EQUAL => compare(tree, at, ws, st, Comparison::Le, looping, n, table),
+        operators::GREATER_EQUAL => compare(tree, at, ws, st, Comparison::Ge, looping, n, table),
+        operators::GREATER_THAN => compare(tree, at, ws, st, Comparison::Gt, looping, n, table),
+        operators::LOGICAL_EQUAL => equal(tree, at, ws, st, Equality::Eq, looping, n, table),
+        operators::LOGICAL_NOT_EQUAL => equal(tree, at, ws, st, Equality::Ne, looping, n, table),
         operators::LOGICAL_AND => logic(
             tree,
             at,
             ws,
             st,
-            opcodes::AND_STEP,
-            opcodes::AND_LAST,
+            Opcode::AndStep,
+            Opcode::AndLast,
             looping,
             n,
             table,
@@ -169,8 +173,8 @@ fn expr(
             at,
             ws,
             st,
-            opcodes::OR_STEP,
-            opcodes::OR_LAST,
+            Opcode::OrStep,
+            Opcode::OrLast,
             looping,
             n,
             table,
@@ -184,8 +188,8 @@ fn expr(
         operators::POINTER => pointer(tree, at, ws, st, looping, n, table),
         operators::LEFT_BRACKET => par(tree, at, ws, st, looping, n, table),
         operators::LEFT_PARENTHESIS => par(tree, at, ws, st, looping, n, table),
-        operators::NEGATE => unary(tree, at, ws, st, opcodes::NEGATE, looping, n, table),
-        operators::LOGICAL_NOT => unary(tree, at, ws, st, opcodes::NOT, looping, n, table),
+        operators::NEGATE => unary(tree, at, ws, st, Opcode::Negate, looping, n, table),
+        operators::LOGICAL_NOT => unary(tree, at, ws, st, Opcode::Not, looping, n, table),
         operators::ADD => add(tree, at, ws, st, looping, n, table),
         operators::MUL => mul(tree, at, ws, st, looping, n, table),
         operators::DIV => div(tree, at, ws, st, looping, n, table),
@@ -392,12 +396,12 @@ fn compare(
     at: usize,
     ws: &mut [u32],
     st: State,
-    o: u8,
+    o: Comparison,
     looping: bool,
     levels: u16,
     table: &RuleTable,
 ) -> State
-    ensures { ◌≡◌ {A = Held} (result, ws.new) (R.under tree.now levels (R.compare tree.now) o at looping (st, ws.old)) }
+    ensures { ◌≡◌ {A = Held} (result, ws.new) (R.under tree.now levels (R.compare tree.now) (comparison_of o) at looping (st, ws.old)) }
 {
     let count = tree::count_at(tree, at);
     if count == 0 {
@@ -412,7 +416,7 @@ fn compare(
         return comparisons::compare_const(tree, at, ws, t, o, q);
     }
     let t = binary(tree, a, ws, s, looping, levels, table);
-    let u = instr(ws, t, opcodes::CMP, o, 0, q.0);
+    let u = instr(ws, t, Opcode::Cmp, o.number(), 0, q.0);
     pop(u, 1)
 }
 
@@ -422,12 +426,12 @@ fn equal(
     at: usize,
     ws: &mut [u32],
     st: State,
-    o: u8,
+    o: Equality,
     looping: bool,
     levels: u16,
     table: &RuleTable,
 ) -> State
-    ensures { ◌≡◌ {A = Held} (result, ws.new) (R.under tree.now levels (R.equal tree.now) o at looping (st, ws.old)) }
+    ensures { ◌≡◌ {A = Held} (result, ws.new) (R.under tree.now levels (R.equal tree.now) (equality_of o) at looping (st, ws.old)) }
 {
     let count = tree::count_at(tree, at);
     if count == 0 {
@@ -442,7 +446,7 @@ fn equal(
         return comparisons::equal_const(tree, at, ws, t, o, q);
     }
     let t = binary(tree, a, ws, s, looping, levels, table);
-    let u = instr(ws, t, opcodes::EQ, o, 0, q.0);
+    let u = instr(ws, t, Opcode::Eq, o.number(), 0, q.0);
     pop(u, 1)
 }
 
@@ -453,13 +457,13 @@ fn logic(
     at: usize,
     ws: &mut [u32],
     st: State,
-    step: u8,
-    last: u8,
+    step: Opcode,
+    last: Opcode,
     looping: bool,
     levels: u16,
     table: &RuleTable,
 ) -> State
-    ensures { ◌≡◌ {A = Held} (result, ws.new) (R.under tree.now levels (R.logic tree.now) step last at looping (st, ws.old)) }
+    ensures { ◌≡◌ {A = Held} (result, ws.new) (R.under tree.now levels (R.logic tree.now) (number_of step) (number_of last) at looping (st, ws.old)) }
 {
     let count = tree::count_at(tree, at);
     if count == 0 {
@@ -490,15 +494,15 @@ fn ops(
     a: usize,
     ws: &mut [u32],
     st: State,
-    step: u8,
-    last: u8,
+    step: Opcode,
+    last: Opcode,
     q: PostIdx,
     m: u16,
     looping: bool,
     levels: u16,
     table: &RuleTable,
 ) -> State
-    ensures { ◌≡◌ {A = Held} (result, ws.new) (R.under tree.now levels (R.operands tree.now) step last q.0 m a looping (st, ws.old)) }
+    ensures { ◌≡◌ {A = Held} (result, ws.new) (R.under tree.now levels (R.operands tree.now) (number_of step) (number_of last) q.0 m a looping (st, ws.old)) }
 {
     let s = expr(tree, a, ws, st, looping, levels, table);
     let alone = m == 0;
@@ -558,12 +562,12 @@ fn unary(
     at: usize,
     ws: &mut [u32],
     st: State,
-    op: u8,
+    op: Opcode,
     looping: bool,
     levels: u16,
     table: &RuleTable,
 ) -> State
-    ensures { ◌≡◌ {A = Held} (result, ws.new) (R.under tree.now levels (R.unary tree.now) op at looping (st, ws.old)) }
+    ensures { ◌≡◌ {A = Held} (result, ws.new) (R.under tree.now levels (R.unary tree.now) (number_of op) at looping (st, ws.old)) }
 {
     if tree::count_at(tree, at) == 0 {
         return builder::failed(ws, st, Refusal::Failed);
@@ -637,12 +641,12 @@ fn terms(
     let mut left = m;
     while left > 0 {
         let t = expr(tree, term, ws, s, looping, levels, table);
-        s = instr(ws, t, opcodes::ADD_ACC, 0, 0, 0);
+        s = instr(ws, t, Opcode::AddAcc, 0, 0, 0);
         term = tree::next_at(tree, term);
         left -= 1;
     }
     let t = expr(tree, term, ws, s, looping, levels, table);
-    put_post(tree, at, ws, t, opcodes::ADD_LAST, 0, 0)
+    put_post(tree, at, ws, t, Opcode::AddLast, 0, 0)
 }
 
 #[cycle(expression)]
@@ -669,17 +673,17 @@ fn mul(
         levels,
         table,
     );
-    let t = put_post(tree, at, ws, s, opcodes::MUL, 0, 0);
+    let t = put_post(tree, at, ws, s, Opcode::Mul, 0, 0);
     pop(t, 1)
 }
 
-fn divisor(tree: &[u8]) -> u8
-    ensures { result ≡ bit (eqb (be8 tree.now 0 6) 1) }
+fn divisor(tree: &[u8]) -> Divisor
+    ensures { divisor_of result ≡ bit (eqb (be8 tree.now 0 6) 1) }
 {
     if wire::get_u8(tree, 0, header::DIVISOR) == 1 {
-        return subs::ABSOLUTE;
+        return Divisor::Absolute;
     }
-    subs::SIGNED
+    Divisor::Signed
 }
 
 // The second child first; its guard pushes the divisor.
@@ -700,11 +704,11 @@ fn div(
     }
     let a = tree::first_at(tree, at);
     let s = expr(tree, tree::next_at(tree, a), ws, st, looping, levels, table);
-    let e = emit_jump(ws, s, opcodes::DIV_GUARD, divisor(tree), 0);
+    let e = emit_jump(ws, s, Opcode::DivGuard, divisor(tree).number(), 0);
     let g = e.state;
     let t = steps::operand(g);
     let u = expr(tree, a, ws, t, looping, levels, table);
-    let v = put_post(tree, at, ws, u, opcodes::DIV, 0, 0);
+    let v = put_post(tree, at, ws, u, Opcode::Div, 0, 0);
     let w = pop(v, 1);
     place_target(ws, w, e.index)
 }
@@ -776,7 +780,7 @@ fn host(
         left -= 1;
     }
     let t = expr(tree, argument, ws, s, looping, levels, table);
-    put_post(tree, at, ws, t, opcodes::HOST_MATH, k, f as u32)
+    put_post(tree, at, ws, t, Opcode::HostMath, k, f as u32)
 }
 
 // ---- calls
@@ -803,10 +807,10 @@ fn pointer(
     let q = p.index;
     let a = tree::first_at(tree, at);
     let t = expr(tree, a, ws, x, looping, levels, table);
-    let e = emit_jump(ws, t, opcodes::POINTER_ENTER, 0, q.0);
+    let e = emit_jump(ws, t, Opcode::PointerEnter, 0, q.0);
     let g = e.state;
     let u = expr(tree, tree::next_at(tree, a), ws, g, looping, levels, table);
-    let v = instr(ws, u, opcodes::POINTER_LEAVE, 0, 0, q.0);
+    let v = instr(ws, u, Opcode::PointerLeave, 0, 0, q.0);
     place_target(ws, v, e.index)
 }
 
@@ -833,7 +837,7 @@ fn query(tree: &[u8], at: usize, ws: &mut [u32], st: State, levels: u16, table: 
         levels,
         table,
     );
-    put_post(tree, at, ws, t, opcodes::CALL, 0, e.index.0 as u32)
+    put_post(tree, at, ws, t, Opcode::Call, 0, e.index.0 as u32)
 }
 
 // Each argument is a segment of its own, without loops; its start goes to its slot.
@@ -885,12 +889,12 @@ fn coalesce(
         return builder::failed(ws, st, Refusal::Failed);
     }
     let a = tree::first_at(tree, at);
-    let e = emit_jump(ws, st, opcodes::HANDLER_PUSH, 0, 0);
+    let e = emit_jump(ws, st, Opcode::HandlerPush, 0, 0);
     let g = e.state;
     let s = steps::enter_handler(g);
     let t = expr(tree, a, ws, s, looping, levels, table);
     let u = steps::leave_handler(t);
-    let f = emit_jump(ws, u, opcodes::HANDLER_POP, 0, 0);
+    let f = emit_jump(ws, u, Opcode::HandlerPop, 0, 0);
     let i = f.state;
     let v = place_target(ws, i, e.index);
     let w = expr(tree, tree::next_at(tree, a), ws, v, looping, levels, table);
@@ -945,10 +949,10 @@ fn conditional(
     let a = tree::first_at(tree, at);
     let b = tree::next_at(tree, a);
     let s = expr(tree, a, ws, st, looping, levels, table);
-    let e = emit_jump(ws, s, opcodes::JUMP_IF_FALSY, 0, 0);
+    let e = emit_jump(ws, s, Opcode::JumpIfFalsy, 0, 0);
     let g = e.state;
     let t = expr(tree, b, ws, g, looping, levels, table);
-    let f = emit_jump(ws, t, opcodes::JUMP, 0, 0);
+    let f = emit_jump(ws, t, Opcode::Jump, 0, 0);
     let i = f.state;
     let u = place_target(ws, i, e.index);
     let v = alt(tree, at, b, ws, u, looping, levels, table);
@@ -1017,7 +1021,7 @@ fn ret(
     }
     if tree::count_at(tree, at) == 0 {
         let s = interning::constant(ws, st, 0);
-        return put_post(tree, at, ws, s, opcodes::RETURN, 0, 0);
+        return put_post(tree, at, ws, s, Opcode::Return, 0, 0);
     }
     let s = expr(
         tree,
@@ -1028,7 +1032,7 @@ fn ret(
         levels - 1,
         table,
     );
-    put_post(tree, at, ws, s, opcodes::RETURN, 0, 0)
+    put_post(tree, at, ws, s, Opcode::Return, 0, 0)
 }
 
 // counted_loop in the Rust: the count, and the body so often.
@@ -1050,7 +1054,7 @@ fn repeat(
     }
     let a = tree::first_at(tree, at);
     let t = expr(tree, a, ws, s, looping, levels, table);
-    let e = emit_jump(ws, t, opcodes::LOOP_BEGIN, 0, 0);
+    let e = emit_jump(ws, t, Opcode::LoopBegin, 0, 0);
     let g = e.state;
     let u = steps::enter_loop(steps::operand(g));
     let v = expr(tree, tree::next_at(tree, a), ws, u, true, levels, table);
@@ -1100,7 +1104,7 @@ fn each(
 {
     let b = tree::next_at(tree, tree::first_at(tree, at));
     let s = expr(tree, b, ws, st, looping, levels, table);
-    let e = emit_jump(ws, s, opcodes::EACH_BEGIN, 0, 0);
+    let e = emit_jump(ws, s, Opcode::EachBegin, 0, 0);
     let g = e.state;
     let f = control::each_next(ws, g, k);
     let i = f.state;

@@ -1,5 +1,6 @@
 // Parts of rules: an instruction, the node's post, an instruction whose target comes later.
 ghost use Rattle.std.specs.Prelude.{◌≡◌, List};
+ghost use Rattle.program.specs.Opcodes.{number_of};
 ghost use Rattle.builder.specs.Steps.{Held};
 ghost use Rattle.lowering.specs.Pools as B;
 ghost use Rattle.lowering.specs.Pools.{Found};
@@ -12,56 +13,57 @@ use crate::interning::{
 };
 use builder::State;
 use numeric::{PostBits, PostOp};
-use program::{PostIdx, opcodes};
+use program::PostIdx;
+use program::opcodes::Opcode;
 
-fn front(op: u8, sub: u8, b: u16) -> u32
-    ensures { result ≡ front op sub b }
+fn front(op: Opcode, sub: u8, b: u16) -> u32
+    ensures { result ≡ front (number_of op) sub b }
 {
-    (op as u32) * 16777216 + (sub as u32) * 65536 + (b as u32)
+    u32::from(op.number()) * 16777216 + u32::from(sub) * 65536 + u32::from(b)
 }
 
 // An instruction of these fields; a Push that waits comes first.
-pub(crate) fn instr(ws: &mut [u32], st: State, op: u8, sub: u8, a: u32, b: u16) -> State
-    ensures { ◌≡◌ {A = Held} (result, ws.new) (instr op sub a b (st, ws.old)) }
+pub(crate) fn instr(ws: &mut [u32], st: State, op: Opcode, sub: u8, a: u32, b: u16) -> State
+    ensures { ◌≡◌ {A = Held} (result, ws.new) (instr (number_of op) sub a b (st, ws.old)) }
 {
     builder::put(ws, st, front(op, sub, b), a)
 }
 
 // An instruction whose A is a constant's index, with that post.
-pub(crate) fn const_instr(ws: &mut [u32], e: ConstEntry, op: u8, sub: u8, q: PostIdx) -> State
-    ensures { ◌≡◌ {A = Held} (result, ws.new) (going (of_const e, ws.old) (λ k. instr op sub k q.0)) }
+pub(crate) fn const_instr(ws: &mut [u32], e: ConstEntry, op: Opcode, sub: u8, q: PostIdx) -> State
+    ensures { ◌≡◌ {A = Held} (result, ws.new) (going (of_const e, ws.old) (λ k. instr (number_of op) sub k q.0)) }
 {
     let s = e.state;
     instr(ws, s, op, sub, e.index.0, q.0)
 }
 
 // An instruction whose A is a hash's index, with that post.
-pub(crate) fn hash_instr(ws: &mut [u32], e: HashEntry, op: u8, sub: u8, q: PostIdx) -> State
-    ensures { ◌≡◌ {A = Held} (result, ws.new) (going (of_hash e, ws.old) (λ k. instr op sub k q.0)) }
+pub(crate) fn hash_instr(ws: &mut [u32], e: HashEntry, op: Opcode, sub: u8, q: PostIdx) -> State
+    ensures { ◌≡◌ {A = Held} (result, ws.new) (going (of_hash e, ws.old) (λ k. instr (number_of op) sub k q.0)) }
 {
     let s = e.state;
     instr(ws, s, op, sub, e.index.0, q.0)
 }
 
 // An instruction whose A is a name's index, with that post.
-pub(crate) fn name_instr(ws: &mut [u32], e: NameEntry, op: u8, sub: u8, q: PostIdx) -> State
-    ensures { ◌≡◌ {A = Held} (result, ws.new) (going (of_name e, ws.old) (λ k. instr op sub k q.0)) }
+pub(crate) fn name_instr(ws: &mut [u32], e: NameEntry, op: Opcode, sub: u8, q: PostIdx) -> State
+    ensures { ◌≡◌ {A = Held} (result, ws.new) (going (of_name e, ws.old) (λ k. instr (number_of op) sub k q.0)) }
 {
     let s = e.state;
     instr(ws, s, op, sub, e.index.0 as u32, q.0)
 }
 
 // An instruction whose A is a temp's index, with that post.
-pub(crate) fn temp_instr(ws: &mut [u32], e: TempEntry, op: u8, sub: u8, q: PostIdx) -> State
-    ensures { ◌≡◌ {A = Held} (result, ws.new) (going (of_temp e, ws.old) (λ k. instr op sub k q.0)) }
+pub(crate) fn temp_instr(ws: &mut [u32], e: TempEntry, op: Opcode, sub: u8, q: PostIdx) -> State
+    ensures { ◌≡◌ {A = Held} (result, ws.new) (going (of_temp e, ws.old) (λ k. instr (number_of op) sub k q.0)) }
 {
     let s = e.state;
     instr(ws, s, op, sub, e.index.0 as u32, q.0)
 }
 
 // An instruction whose A is a store's index, with that post.
-pub(crate) fn store_instr(ws: &mut [u32], e: StoreEntry, op: u8, sub: u8, q: PostIdx) -> State
-    ensures { ◌≡◌ {A = Held} (result, ws.new) (going (of_store e, ws.old) (λ k. instr op sub k q.0)) }
+pub(crate) fn store_instr(ws: &mut [u32], e: StoreEntry, op: Opcode, sub: u8, q: PostIdx) -> State
+    ensures { ◌≡◌ {A = Held} (result, ws.new) (going (of_store e, ws.old) (λ k. instr (number_of op) sub k q.0)) }
 {
     let s = e.state;
     instr(ws, s, op, sub, e.index.0 as u32, q.0)
@@ -85,11 +87,11 @@ pub(crate) fn put_post(
     at: usize,
     ws: &mut [u32],
     st: State,
-    op: u8,
+    op: Opcode,
     sub: u8,
     a: u32,
 ) -> State
-    ensures { ◌≡◌ {A = Held} (result, ws.new) (put_post tree.now at op sub a (st, ws.old)) }
+    ensures { ◌≡◌ {A = Held} (result, ws.new) (put_post tree.now at (number_of op) sub a (st, ws.old)) }
 {
     let e = post(tree, at, ws, st);
     let s = e.state;
@@ -97,8 +99,14 @@ pub(crate) fn put_post(
 }
 
 // The same, where A is a name's index.
-pub(crate) fn name_put_post(tree: &[u8], at: usize, ws: &mut [u32], e: NameEntry, op: u8) -> State
-    ensures { ◌≡◌ {A = Held} (result, ws.new) (going (of_name e, ws.old) (λ k. put_post tree.now at op 0 k)) }
+pub(crate) fn name_put_post(
+    tree: &[u8],
+    at: usize,
+    ws: &mut [u32],
+    e: NameEntry,
+    op: Opcode,
+) -> State
+    ensures { ◌≡◌ {A = Held} (result, ws.new) (going (of_name e, ws.old) (λ k. put_post tree.now at (number_of op) 0 k)) }
 {
     let s = e.state;
     put_post(tree, at, ws, s, op, 0, e.index.0 as u32)
@@ -110,9 +118,9 @@ pub(crate) fn member_put_post(
     at: usize,
     ws: &mut [u32],
     e: MemberEntry,
-    op: u8,
+    op: Opcode,
 ) -> State
-    ensures { ◌≡◌ {A = Held} (result, ws.new) (going (of_member e, ws.old) (λ k. put_post tree.now at op 0 k)) }
+    ensures { ◌≡◌ {A = Held} (result, ws.new) (going (of_member e, ws.old) (λ k. put_post tree.now at (number_of op) 0 k)) }
 {
     let s = e.state;
     put_post(tree, at, ws, s, op, 0, e.index.0 as u32)
@@ -126,12 +134,12 @@ pub(crate) fn post_instr(tree: &[u8], at: usize, ws: &mut [u32], st: State) -> S
     if p.is_identity() {
         return builder::flush(ws, st);
     }
-    put_post(tree, at, ws, st, opcodes::POST, 0, 0)
+    put_post(tree, at, ws, st, Opcode::Post, 0, 0)
 }
 
 // An instruction whose target is not known yet, and its place in the open segment.
-pub(crate) fn emit_jump(ws: &mut [u32], st: State, op: u8, sub: u8, b: u16) -> Entry
-    ensures { ◌≡◌ {A = Found} (result, ws.new) (emit_jump op sub b (st, ws.old)) }
+pub(crate) fn emit_jump(ws: &mut [u32], st: State, op: Opcode, sub: u8, b: u16) -> Entry
+    ensures { ◌≡◌ {A = Found} (result, ws.new) (emit_jump (number_of op) sub b (st, ws.old)) }
 {
     let s = builder::flush(ws, st);
     let at = builder::segments::place(s);

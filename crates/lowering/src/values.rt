@@ -16,7 +16,8 @@ use answers::refusals::Refusal;
 use builder::State;
 use numeric::PostOp;
 use payload::{NameRef, Payload};
-use program::{Flags, PostIdx, opcodes};
+use program::opcodes::Opcode;
+use program::{Flags, PostIdx};
 use workspace::words::low;
 
 // ---- what a payload reads as
@@ -90,7 +91,7 @@ pub(crate) fn string_literal(tree: &[u8], at: usize, ws: &mut [u32], st: State) 
     let s = not_float_only(st);
     let p = payload::payload_at(tree, at);
     let e = interning::hash(ws, s, string_hash(p));
-    hash_instr(ws, e, opcodes::HASH, 0, PostIdx::PLAIN)
+    hash_instr(ws, e, Opcode::Hash, 0, PostIdx::PLAIN)
 }
 
 pub(crate) fn resource(tree: &[u8], at: usize, ws: &mut [u32], st: State) -> State
@@ -99,7 +100,7 @@ pub(crate) fn resource(tree: &[u8], at: usize, ws: &mut [u32], st: State) -> Sta
     let s = not_float_only(st);
     let p = payload::payload_at(tree, at);
     let e = interning::hash(ws, s, resource_hash(p));
-    hash_instr(ws, e, opcodes::RESOURCE, 0, PostIdx::PLAIN)
+    hash_instr(ws, e, Opcode::Resource, 0, PostIdx::PLAIN)
 }
 
 // The node's constant with its post folded in.
@@ -120,7 +121,7 @@ fn load_context(tree: &[u8], at: usize, ws: &mut [u32], st: State, q: PostIdx) -
     };
     let s = flag(st, Flags::READS_CONTEXT);
     let e = interning::name(ws, s, n);
-    name_instr(ws, e, opcodes::LOAD_CTX, 0, q)
+    name_instr(ws, e, Opcode::LoadCtx, 0, q)
 }
 
 fn load_temp(tree: &[u8], at: usize, ws: &mut [u32], st: State, q: PostIdx) -> State
@@ -131,7 +132,7 @@ fn load_temp(tree: &[u8], at: usize, ws: &mut [u32], st: State, q: PostIdx) -> S
         return load_context(tree, at, ws, st, q);
     };
     let e = interning::temp(ws, st, n);
-    temp_instr(ws, e, opcodes::LOAD_TEMP, 0, q)
+    temp_instr(ws, e, Opcode::LoadTemp, 0, q)
 }
 
 fn load_var(tree: &[u8], at: usize, ws: &mut [u32], st: State, q: PostIdx) -> State
@@ -143,7 +144,7 @@ fn load_var(tree: &[u8], at: usize, ws: &mut [u32], st: State, q: PostIdx) -> St
     };
     let s = flag(st, Flags::READS_ACTOR_VARS);
     let e = interning::name(ws, s, n);
-    name_instr(ws, e, opcodes::LOAD_VAR, 0, q)
+    name_instr(ws, e, Opcode::LoadVar, 0, q)
 }
 
 // A variable, whatever the operator: the payload tells its kind.
@@ -166,12 +167,12 @@ pub(crate) fn member_put(tree: &[u8], at: usize, ws: &mut [u32], st: State, last
         return builder::failed(ws, st, Refusal::Failed);
     };
     let e = interning::member(ws, st, n, last);
-    member_put_post(tree, at, ws, e, opcodes::MEMBER)
+    member_put_post(tree, at, ws, e, Opcode::Member)
 }
 
 pub(crate) fn array_put(tree: &[u8], at: usize, ws: &mut [u32], st: State, n: NameRef) -> State
     ensures { ◌≡◌ {A = Held} (result, ws.new) (R.array_put tree.now at n (st, ws.old)) }
 {
     let e = interning::name(ws, st, n);
-    name_put_post(tree, at, ws, e, opcodes::ARRAY_ELEMENT)
+    name_put_post(tree, at, ws, e, Opcode::ArrayElement)
 }

@@ -1,4 +1,5 @@
 -- What each rule of the cycle returns, and what its loop keeps, by what its calls ensure.
+use mathlib.Core.Path.{◌∙◌}
 use Rattle.lowering.specs.Rules.{branch, among}
 use Rattle.lowering.proofs.Absent.{but_member, but_array, but_query, but_math, but_refused}
 use Rattle.lowering.proofs.Handlers.{array_old, array_count, array_other, array_all, member_other, member_none, member_all}
@@ -217,8 +218,8 @@ compare-returns-then-count-eq1 t c =
 
 pub compare-returns : goal.compare-returns
 compare-returns t c =
-    compare_all _ _ _ _ _ _ _ _ c.count_at-count.ensures c.if-count-eq0.false c.post-e.ensures c.first_at-a.ensures.0 c.if-count-eq1.false
-    c.binary-t.ensures c.instr-u.ensures c.pop.ensures
+    rw (← c.number.ensures) (compare_all _ _ _ _ _ _ _ _ c.count_at-count.ensures c.if-count-eq0.false c.post-e.ensures c.first_at-a.ensures.0 c.if-count-eq1.false
+    c.binary-t.ensures c.instr-u.ensures c.pop.ensures)
 
 pub equal-returns-then-count-eq0 : goal.equal-returns-then-count-eq0
 equal-returns-then-count-eq0 t c = equal_none _ _ _ _ _ _ _ _ c.count_at-count.ensures c.if-count-eq0.true c.failed.ensures
@@ -230,8 +231,8 @@ equal-returns-then-count-eq1 t c =
 
 pub equal-returns : goal.equal-returns
 equal-returns t c =
-    equal_all _ _ _ _ _ _ _ _ c.count_at-count.ensures c.if-count-eq0.false c.post-e.ensures c.first_at-a.ensures.0 c.if-count-eq1.false
-    c.binary-t.ensures c.instr-u.ensures c.pop.ensures
+    rw (← c.number.ensures) (equal_all _ _ _ _ _ _ _ _ c.count_at-count.ensures c.if-count-eq0.false c.post-e.ensures c.first_at-a.ensures.0 c.if-count-eq1.false
+    c.binary-t.ensures c.instr-u.ensures c.pop.ensures)
 
 pub logic-returns-then-count-eq0 : goal.logic-returns-then-count-eq0
 logic-returns-then-count-eq0 t c = logical_none _ _ _ _ _ _ _ _ _ c.count_at-count.ensures c.if-count-eq0.true c.failed.ensures
@@ -294,7 +295,7 @@ div-returns-then-count_at-lt2 t c = div_few _ _ _ _ _ _ _ c.count_at.ensures c.i
 pub div-returns : goal.div-returns
 div-returns t c =
     div_all _ _ _ _ _ _ _ c.count_at.ensures c.if-count_at-lt2.false c.first_at-a.ensures.0 c.next_at.ensures.0 c.expr-s.ensures
-    c.divisor.ensures c.emit_jump-e.ensures c.operand-t.ensures c.expr-u.ensures c.put_post-v.ensures c.pop-w.ensures c.place_target.ensures
+    (c.number.ensures ∙ c.divisor.ensures) c.emit_jump-e.ensures c.operand-t.ensures c.expr-u.ensures c.put_post-v.ensures c.pop-w.ensures c.place_target.ensures
 
 pub host_math-returns-in_default : goal.host_math-returns-in_default
 host_math-returns-in_default t c =

@@ -12,4 +12,4 @@ pub returns : goal.returns
 unfolding compare_const
 returns c =
     let a = c.args in
-    gone (λ k. instr 24 a.o k a.q.0) (◌∙◌ {A = Found} c.konst-e.ensures (ap (λ (n : ℕ). B.konst n (a.st, a.ws.now)) (c.constant_bits.ensures ∙ ap const_of c.payload_at-p.ensures))) c.const_instr.ensures
+    rw (← c.number.ensures) (gone (λ k. instr 24 c.number.result k a.q.0) (◌∙◌ {A = Found} c.konst-e.ensures (ap (λ (n : ℕ). B.konst n (a.st, a.ws.now)) (c.constant_bits.ensures ∙ ap const_of c.payload_at-p.ensures))) c.const_instr.ensures)

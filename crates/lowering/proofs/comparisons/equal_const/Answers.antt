@@ -14,10 +14,10 @@ pub returns-in_default : goal.returns-in_default
 unfolding equal_const
 returns-in_default c =
     let a = c.args in
-    ◌∙◌ {A = Held} (gone (λ k. instr 26 a.o k a.q.0) (◌∙◌ {A = Found} c.konst-e.ensures (ap (λ (n : ℕ). B.konst n (a.st, a.ws.now)) (c.float_bits.ensures ∙ ap float_of c.payload_at-p.ensures))) c.const_instr.ensures) (not_hash {X = Held} _ _ c.payload_at-p.ensures c.in_default.not-Hash)
+    rw (← c.number.ensures) (◌∙◌ {A = Held} (gone (λ k. instr 26 c.number.result k a.q.0) (◌∙◌ {A = Found} c.konst-e.ensures (ap (λ (n : ℕ). B.konst n (a.st, a.ws.now)) (c.float_bits.ensures ∙ ap float_of c.payload_at-p.ensures))) c.const_instr.ensures) (not_hash {X = Held} _ _ c.payload_at-p.ensures c.in_default.not-Hash))
 
 pub returns : goal.returns
 unfolding equal_const
 returns c =
     let a = c.args in
-    ◌∙◌ {A = Held} (gone (λ k. instr 27 a.o k a.q.0) (◌∙◌ {A = Found} c.hash-e.ensures (hash_at_lem a.ws.now refl c.not_float_only-s.ensures)) c.hash_instr.ensures) (is_hash {X = Held} _ _ _ c.payload_at-p.ensures c.in-Hash.is)
+    rw (← c.number-2.ensures) (◌∙◌ {A = Held} (gone (λ k. instr 27 c.number-2.result k a.q.0) (◌∙◌ {A = Found} c.hash-e.ensures (hash_at_lem a.ws.now refl c.not_float_only-s.ensures)) c.hash_instr.ensures) (is_hash {X = Held} _ _ _ c.payload_at-p.ensures c.in-Hash.is))
