@@ -105,7 +105,7 @@ relocate_front b (I.each_next (I.each_next_temp c) t) = refl
 relocate_front b (I.call c d) = refl
 
 pub relocate_back : (b : ℕ) (i : Instruction) → (word_of (relocate b i)).a ≡ (word_of i).a + shift_of (word_of i).opcode b
-unfolding relocate word_of shift_of among
+unfolding relocate word_of
 relocate_back b (I.plain (I.const c)) = omega arith
 relocate_back b (I.plain (I.hash c)) = omega arith
 relocate_back b (I.plain (I.resource c)) = omega arith
