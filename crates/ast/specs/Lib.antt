@@ -6,3 +6,4 @@ pub mod Tree
 pub mod Node
 pub mod Questions
 pub mod Encode
+pub mod Kinds

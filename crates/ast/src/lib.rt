@@ -2,6 +2,7 @@
 #![tactic(auto)]
 
 pub mod header;
+pub mod kinds;
 pub mod operators;
 pub mod rules;
 

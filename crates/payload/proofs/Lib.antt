@@ -1,3 +1,2 @@
-pub mod Kind
 pub mod TextCut
 pub mod Meant

@@ -7,6 +7,7 @@ ghost use Rattle.ast.specs.Node.{size_at};
 ghost use Rattle.ast.specs.Questions.{fits, row, filled, whole, questions};
 
 use answers::refusals::Refusal;
+use ast::kinds::Kind;
 use ast::{RuleTable, header};
 
 // The node at `p`, whose payload takes `size` bytes, is known, holds its own fields, and ends at `end` or before.
@@ -14,18 +15,18 @@ fn fits_at(s: &[u8], p: usize, size: u16, end: usize, table: &RuleTable) -> bool
     requires { size ≡ size_at s.now p }
     ensures { result ≡ fits s.now p end }
 {
-    if table.rule(tree::op_at(s, p)) != 0 {
-        if tree::kind_at(s, p) <= 12 {
-            let len = tree::length_at(s, p) as usize;
-            let own = 12 + (size as usize);
-            if own <= len {
-                return p <= end && 4 + len <= end - p;
-            }
-            return false;
-        }
+    if table.rule(tree::op_at(s, p)) == 0 {
         return false;
     }
-    false
+    let Ok(_) = Kind::try_from(tree::kind_at(s, p)) else {
+        return false;
+    };
+    let len = tree::length_at(s, p) as usize;
+    let own = 12 + (size as usize);
+    if len < own {
+        return false;
+    }
+    p <= end && 4 + len <= end - p
 }
 
 // From `p` on `n` nodes stand one behind the other up to `end`, each right inside to so many levels.

@@ -5,6 +5,8 @@ ghost use Rattle.std.specs.Prelude.{◌≡◌, ◌<◌, ◌≤◌, length};
 ghost use Rattle.wire.specs.Bytes.{reach};
 ghost use Rattle.ast.specs.Node.{len_at, op_at, scale_at, offset_at, kind_at, size_of, size_at, count_at, first_at, next_at};
 
+use ast::kinds::Kind;
+
 // The length of the node's rest.
 pub fn length_at(s: &[u8], p: usize) -> u32
     ensures { result ≡ len_at s.now p }
@@ -50,16 +52,19 @@ pub fn place(s: &[u8], p: usize, k: usize) -> usize
     if k <= s.len() - p { p + k } else { s.len() }
 }
 
+// A name has its hash, its text's length and its text.
+#[tactic(auto, unfolding(ast::specs::Node::size_of))]
 fn size_of(kind: u8, text: u8) -> u16
     ensures { (result ≡ size_of kind text) × (result < 265) }
 {
-    match kind {
-        1 => 4,
-        2 => 8,
-        3..=10 => 9 + (text as u16),
-        11 => 3,
-        12 => 2,
-        _ => 0,
+    match Kind::try_from(kind) {
+        Ok(Kind::None) => 0,
+        Ok(Kind::Float) => 4,
+        Ok(Kind::Hash) => 8,
+        Ok(Kind::Query) => 3,
+        Ok(Kind::HostMath) => 2,
+        Ok(_) => 9 + u16::from(text),
+        Err(_) => 0,
     }
 }
 

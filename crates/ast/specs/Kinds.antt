@@ -1,0 +1,20 @@
+-- The payload kinds by their numbers. 01, The tree image: "Payload kinds: 0 None, 1 Float (4 bytes), 2 Hash (8), .. 11 Query (index 2, impl_idx 1), 12 HostMath (2)". Definitions only.
+use Rattle.std.specs.Prelude.{ℕ}
+use Rattle.ast.specs.NameKinds as Name
+use Rattle.ast.specs.declared.kinds.Kind.{Kind}
+use Rattle.ast.specs.declared.kinds.Kind.TheVariants as K
+
+abbrev pub number_of : Kind → ℕ
+number_of K.None = 0
+number_of K.Float = 1
+number_of K.Hash = 2
+number_of K.Context = Name.CONTEXT
+number_of K.Entity = Name.ENTITY
+number_of K.Temp = Name.TEMP
+number_of K.Member = Name.MEMBER
+number_of K.ArrayVariable = Name.ARRAY_VARIABLE
+number_of K.Geometry = Name.GEOMETRY
+number_of K.Material = Name.MATERIAL
+number_of K.Texture = Name.TEXTURE
+number_of K.Query = 11
+number_of K.HostMath = 12
