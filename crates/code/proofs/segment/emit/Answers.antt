@@ -7,8 +7,7 @@ use Rattle.code.proofs.segment.emit.Goals as goal
 
 pub returns-then-top-lt-CODE_ROOM : goal.returns-then-top-lt-CODE_ROOM
 unfolding emitted emitted_top
-returns-then-top-lt-CODE_ROOM c =
-    rw (le-leb (c.args.top + 1) 2048 (omega arith), ← c.wide.ensures.0) (refl, c.put_pair.ensures)
+returns-then-top-lt-CODE_ROOM c = rw (le-leb (c.args.top + 1) 2048 (omega arith), ← c.from.ensures) (refl, c.put_pair.ensures)
 
 pub returns : goal.returns
 unfolding emitted emitted_top

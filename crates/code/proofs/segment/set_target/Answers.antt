@@ -7,7 +7,7 @@ use Rattle.code.proofs.segment.set_target.Goals as goal
 
 pub returns-then-at-lt-CODE_ROOM : goal.returns-then-at-lt-CODE_ROOM
 unfolding targeted
-returns-then-at-lt-CODE_ROOM c = rw (le-leb (c.args.at + 1) 2048 (omega arith), ← c.wide.ensures.0) c.put_word.ensures
+returns-then-at-lt-CODE_ROOM c = rw (le-leb (c.args.at + 1) 2048 (omega arith), ← c.from.ensures) c.put_word.ensures
 
 pub returns-else-at-lt-CODE_ROOM : goal.returns-else-at-lt-CODE_ROOM
 unfolding targeted
