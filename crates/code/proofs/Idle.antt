@@ -1,5 +1,5 @@
 -- Eight instructions that do not wait are passed at once. Assumes nothing.
-use mathlib.Core.Path.{◌≡◌, refl}
+use mathlib.Core.Path.{◌≡◌, ap, refl, ◌∙◌}
 use mathlib.Core.List.{List}
 use Prim.Native.Nat.{ℕ, zero, suc, ◌+◌, ◌*◌, ◌<◌}
 use native.Mathlib.Omega.{arith}
@@ -9,7 +9,7 @@ use borrow.Author.Count.{below_none, below_more}
 use borrow.Author.Tests.{ne_eqb}
 use Rattle.std.proofs.lemmas.Nat.{le_or_l, le_or_r}
 use Rattle.code.specs.Segments.{break_resolved, range_resolved, BREAK, CONTINUE}
-use Rattle.code.proofs.Runs.{aim_next, aim_none}
+use Rattle.code.proofs.Runs.{aim_next}
 
 -- the or of eight numbers is below n: each is
 module _ (n : ℕ) (f : ℕ → ℕ) (x : ℕ) where
@@ -32,7 +32,9 @@ module _ (ws : List ℕ) (at check cleanup : ℕ) where
 
   -- those that do not wait are left as they are
   pub idle_range : (n : ℕ) → ((k : ℕ) → k < n → get_or ws (at * 2 + 2 * k) 0 < 2147483648) → ws ≡ range_resolved ws at n check cleanup
-  idle_range zero h = aim_none check cleanup ws at
+  unfolding range_resolved
+  idle_range zero h = refl
   idle_range (suc n) h =
       let e : at * 2 + 2 * n ≡ (at + n) * 2 = omega arith in
-      aim_next check cleanup ws at n (at + n) (suc n) (idle_range n (λ k i. h k (omega arith))) (idle_one (at + n) (rw e at (h n (omega arith)))) refl (omega arith)
+      let f : n + 1 ≡ suc n = omega arith in
+      aim_next check cleanup ws at n (idle_range n (λ k i. h k (omega arith))) (idle_one (at + n) (rw e at (h n (omega arith)))) ∙ ap (λ (j : ℕ). range_resolved ws at j check cleanup) f

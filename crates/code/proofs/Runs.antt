@@ -22,13 +22,9 @@ module _ (check cleanup : ℕ) where
   aim_more words at n m k l e f g h = f ∙ rw (e, g, h) (sym (aim_parts words at n m))
 
   -- or the next one
-  pub aim_next : (words : List ℕ) {now next : List ℕ} (at n k l : ℕ) → now ≡ range_resolved words at n check cleanup → next ≡ break_resolved now k check cleanup → k ≡ at + n → l ≡ n + 1 → next ≡ range_resolved words at l check cleanup
+  pub aim_next : (words : List ℕ) {now next : List ℕ} (at n : ℕ) → now ≡ range_resolved words at n check cleanup → next ≡ break_resolved now (at + n) check cleanup → next ≡ range_resolved words at (n + 1) check cleanup
   unfolding range_resolved
-  aim_next words at n k l e f g h = aim_more words at n 1 k l e f g h
-
-  pub aim_none : (words : List ℕ) (at : ℕ) → words ≡ range_resolved words at 0 check cleanup
-  unfolding range_resolved
-  aim_none words at = refl
+  aim_next words at n e f = f ∙ rw e (sym (aim_parts words at n 1))
 
 module _ (by : ℕ) where
   move_parts : (words : List ℕ) (from to n m : ℕ) → relocated_range words from to (n + m) by ≡ relocated_range (relocated_range words from to n by) (from + n * 2) (to + n * 2) m by
@@ -48,7 +44,3 @@ module _ (by : ℕ) where
   pub move_next : (words : List ℕ) {now next : List ℕ} (from to n : ℕ) → now ≡ relocated_range words from to n by → next ≡ relocated_one now (from + n * 2) (to + n * 2) by → next ≡ relocated_range words from to (n + 1) by
   unfolding relocated_range
   move_next words from to n e f = f ∙ rw e (sym (move_parts words from to n 1))
-
-  pub move_none : (words : List ℕ) (from to : ℕ) → words ≡ relocated_range words from to 0 by
-  unfolding relocated_range
-  move_none words from to = refl

@@ -15,6 +15,7 @@ pub const CONTINUE: u32 = 0xfb00_0000;
 pub const JUMP: u32 = 0x2000_0000;
 
 // Appends an instruction to the open code, and gives the place after it.
+#[tactic(auto, unfolding(crate::specs::Segments::emitted, crate::specs::Segments::emitted_top))]
 pub fn emit(ws: &mut [u32], top: u16, front: u32, back: u32) -> u16
     ensures { (result ≡ emitted_top top) × (ws.new ≡ emitted ws.old top front back) }
 {
@@ -26,6 +27,7 @@ pub fn emit(ws: &mut [u32], top: u16, front: u32, back: u32) -> u16
 }
 
 // Gives the instruction at a place of the open code its target.
+#[tactic(auto, unfolding(crate::specs::Segments::targeted))]
 pub fn set_target(ws: &mut [u32], at: u16, target: u32)
     ensures { ws.new ≡ targeted ws.old at target }
 {
@@ -35,6 +37,7 @@ pub fn set_target(ws: &mut [u32], at: u16, target: u32)
 }
 
 // A Break or Continue that waits becomes a Jump to its loop's end or check.
+#[tactic(auto, unfolding(crate::specs::Segments::break_resolved))]
 fn resolve_break(ws: &mut [u32], at: usize, check: u32, cleanup: u32)
     requires { at < 4294967296 }
     ensures { ws.new ≡ break_resolved ws.old at check cleanup }
@@ -65,6 +68,7 @@ fn eight_idle(ws: &[u32], at: usize) -> bool
 }
 
 // The Breaks and Continues among `count` instructions, one by one.
+#[tactic(auto, using(crate::proofs::Runs::aim_next), unfolding(crate::specs::Segments::range_resolved))]
 fn resolve_each(ws: &mut [u32], from: usize, count: usize, check: u32, cleanup: u32)
     requires { from + count < 4294967296 }
     ensures { ws.new ≡ range_resolved ws.old from count check cleanup }
@@ -90,6 +94,7 @@ pub fn resolve_breaks(ws: &mut [u32], from: u16, count: u16, check: u32, cleanup
 }
 
 // Copies an instruction, `by` added to its target where it has one.
+#[tactic(auto, unfolding(crate::specs::Segments::relocated_one))]
 fn move_one(ws: &mut [u32], from: usize, to: usize, by: u32)
     requires { (from < 4294967296) × (to < 4294967296) }
     ensures { ws.new ≡ relocated_one ws.old from to by }
@@ -101,6 +106,7 @@ fn move_one(ws: &mut [u32], from: usize, to: usize, by: u32)
 }
 
 // Copies `count` of them.
+#[tactic(auto, using(crate::proofs::Runs::move_next), unfolding(crate::specs::Segments::relocated_range))]
 fn move_all(ws: &mut [u32], from: usize, to: usize, count: usize, by: u32)
     requires { (from + count * 2 < 4294967296) × (to + count * 2 < 4294967296) }
     ensures { ws.new ≡ relocated_range ws.old from to count by }
@@ -111,6 +117,7 @@ fn move_all(ws: &mut [u32], from: usize, to: usize, count: usize, by: u32)
 }
 
 // Puts `count` instructions of the open code behind the finished ones, their start there added to their targets, and gives how many are finished then.
+#[tactic(auto, unfolding(crate::specs::Segments::moved, crate::specs::Segments::moved_count))]
 pub fn move_segment(ws: &mut [u32], from: u16, count: u16, finished: u16) -> u16
     ensures { (result ≡ moved_count count finished) × (ws.new ≡ moved ws.old from count finished) }
 {
