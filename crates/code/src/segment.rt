@@ -54,17 +54,20 @@ fn resolve_break(ws: &mut [u32], at: usize, check: u32, cleanup: u32)
 }
 
 // Whether eight instructions from a place on are there, and none of them waits: what waits has the top bit in its first word. Looked at once in eight.
+#[tactic(auto, using(std::proofs::lemmas::Nat::le_or_l, std::proofs::lemmas::Nat::le_or_r))]
 fn eight_idle(ws: &[u32], at: usize) -> bool
     requires { at < 4294967296 }
     ensures { Idle ws.now at 8 result }
 {
-    let i = at * 2;
-    if ws.len() < i + 15 {
+    let first = at * 2;
+    if ws.len() < first + 15 {
         return false;
     }
-    let a = ws[i] | ws[i + 2] | ws[i + 4] | ws[i + 6];
-    let b = ws[i + 8] | ws[i + 10] | ws[i + 12] | ws[i + 14];
-    (a | b) < 0x8000_0000
+    let mut fronts = 0;
+    for k in 0..8 {
+        fronts |= ws[first + k * 2];
+    }
+    fronts < 0x8000_0000
 }
 
 // The Breaks and Continues among `count` instructions, one by one.
