@@ -86,12 +86,11 @@ pub fn resolve_breaks(ws: &mut [u32], from: u16, count: u16, check: u32, cleanup
     ensures { ws.new ≡ range_resolved ws.old from count check cleanup }
 {
     let start = usize::from(from);
-    let single = usize::from(count % 8);
-    resolve_each(ws, start, single, check, cleanup);
-    for k in 0..usize::from(count / 8) {
-        let at = start + single + k * 8;
-        if !eight_idle(ws, at) {
-            resolve_each(ws, at, 8, check, cleanup);
+    let all = usize::from(count);
+    for k in 0..all.div_ceil(8) {
+        let passed = k * 8;
+        if !eight_idle(ws, start + passed) {
+            resolve_each(ws, start + passed, (all - passed).min(8), check, cleanup);
         }
     }
 }
