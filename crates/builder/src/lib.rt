@@ -99,13 +99,12 @@ pub fn failed(ws: &mut [u32], st: State, why: Refusal) -> State
 }
 
 // A Push waits, and one more operand is on the stack.
+#[tactic(auto, unfolding(crate::specs::Steps::pushed))]
 pub fn push(st: State) -> State
     ensures { result ≡ pushed st }
 {
-    let d = st.depth;
-    let e = depth::with_operand(d);
     let mut s = st;
-    s.depth = e;
+    s.depth.push_operand();
     s.waiting = true;
     s
 }

@@ -1,38 +1,58 @@
--- A run over words goes on by one: what is left to do is what was to do. Assumes nothing.
-use mathlib.Core.Path.{◌≡◌, ap, ◌∙◌}
+-- A run over words is its first part, and then the rest on what that made. Assumes nothing.
+use mathlib.Core.Path.{◌≡◌, refl, sym, ◌∙◌}
 use mathlib.Core.List.{List}
-use Prim.Native.Nat.{ℕ, zero, suc, ◌+◌, ◌<◌}
+use Prim.Native.Nat.{ℕ, zero, suc, ◌+◌, ◌*◌}
 use native.Mathlib.Omega.{arith}
 use Rattle.code.specs.Segments.{break_resolved, range_resolved, relocated_one, relocated_range}
 
--- from another step count and place, if they are the same numbers
-pub aim_on : (words : List ℕ) (at n k l m check cleanup : ℕ) → 0 < n → k ≡ at + 1 → m + 1 ≡ n → range_resolved (break_resolved words at check cleanup) k m check cleanup ≡ range_resolved words at n check cleanup
-unfolding range_resolved
-aim_on words at zero k l m check cleanup h e f = absurd (omega arith)
-aim_on words at (suc n) k l m check cleanup h e f =
-    let e' : k ≡ suc at = omega arith in
-    let f' : m ≡ n = omega arith in
-    ap (λ (j : ℕ). range_resolved (break_resolved words at check cleanup) j m check cleanup) e' ∙ ap (λ (j : ℕ). range_resolved (break_resolved words at check cleanup) (suc at) j check cleanup) f'
+module _ (check cleanup : ℕ) where
+  aim_parts : (words : List ℕ) (at n m : ℕ)
+      → range_resolved words at (n + m) check cleanup ≡ range_resolved (range_resolved words at n check cleanup) (at + n) m check cleanup
+  unfolding range_resolved
+  aim_parts words at zero m =
+      let e : 0 + m ≡ m = omega arith in
+      let f : at + 0 ≡ at = omega arith in
+      rw (e, f) refl
+  aim_parts words at (suc n) m =
+      let e : suc n + m ≡ suc (n + m) = omega arith in
+      let f : at + suc n ≡ suc at + n = omega arith in
+      rw (e, f) (aim_parts (break_resolved words at check cleanup) (suc at) n m)
 
-pub aim_end : (words : List ℕ) (at n check cleanup : ℕ) → n ≡ 0 → range_resolved words at n check cleanup ≡ words
-unfolding range_resolved
-aim_end words at n check cleanup e = ap (λ (j : ℕ). range_resolved words at j check cleanup) e
+  -- n instructions are aimed, and then the next m
+  pub aim_more : (words : List ℕ) {now next : List ℕ} (at n m k l : ℕ)
+      → now ≡ range_resolved words at n check cleanup
+      → next ≡ range_resolved now k m check cleanup
+      → k ≡ at + n → l ≡ n + m
+      → next ≡ range_resolved words at l check cleanup
+  aim_more words at n m k l e f g h = f ∙ rw (e, g, h) (sym (aim_parts words at n m))
 
-pub move_on : (words : List ℕ) (from to n by a b m : ℕ) → 0 < n → a ≡ from + 2 → b ≡ to + 2 → m + 1 ≡ n → relocated_range (relocated_one words from to by) a b m by ≡ relocated_range words from to n by
-unfolding relocated_range
-move_on words from to zero by a b m h e f g = absurd (omega arith)
-move_on words from to (suc n) by a b m h e f g =
-    let w = relocated_one words from to by in
-    let g' : m ≡ n = omega arith in
-    ap (λ (j : ℕ). relocated_range w j b m by) e ∙ ap (λ (j : ℕ). relocated_range w (from + 2) j m by) f ∙ ap (λ (j : ℕ). relocated_range w (from + 2) (to + 2) j by) g'
+  -- or the next one
+  pub aim_next : (words : List ℕ) {now next : List ℕ} (at n : ℕ)
+      → now ≡ range_resolved words at n check cleanup
+      → next ≡ break_resolved now (at + n) check cleanup
+      → next ≡ range_resolved words at (n + 1) check cleanup
+  unfolding range_resolved
+  aim_next words at n e f = aim_more words at n 1 _ _ e f refl refl
 
-pub move_end : (words : List ℕ) (from to n by : ℕ) → n ≡ 0 → relocated_range words from to n by ≡ words
-unfolding relocated_range
-move_end words from to n by e = ap (λ (j : ℕ). relocated_range words from to j by) e
+module _ (by : ℕ) where
+  move_parts : (words : List ℕ) (from to n m : ℕ)
+      → relocated_range words from to (n + m) by ≡ relocated_range (relocated_range words from to n by) (from + n * 2) (to + n * 2) m by
+  unfolding relocated_range
+  move_parts words from to zero m =
+      let e : 0 + m ≡ m = omega arith in
+      let f : from + 0 * 2 ≡ from = omega arith in
+      let g : to + 0 * 2 ≡ to = omega arith in
+      rw (e, f, g) refl
+  move_parts words from to (suc n) m =
+      let e : suc n + m ≡ suc (n + m) = omega arith in
+      let f : from + suc n * 2 ≡ from + 2 + n * 2 = omega arith in
+      let g : to + suc n * 2 ≡ to + 2 + n * 2 = omega arith in
+      rw (e, f, g) (move_parts (relocated_one words from to by) (from + 2) (to + 2) n m)
 
--- a step of a loop, by what its calls promise
-pub aim_next : (ws : List ℕ) {next : List ℕ} (at check cleanup left k m : ℕ) {whole : List ℕ} → next ≡ break_resolved ws at check cleanup → 0 < left → k ≡ at + 1 → m + 1 ≡ left → range_resolved ws at left check cleanup ≡ whole → range_resolved next k m check cleanup ≡ whole
-aim_next ws at check cleanup left k m e h i j f = ap (λ (l : List ℕ). range_resolved l k m check cleanup) e ∙ aim_on ws at left k 0 m check cleanup h i j ∙ f
-
-pub move_next : (ws : List ℕ) {next : List ℕ} (from to by left a b m : ℕ) {whole : List ℕ} → next ≡ relocated_one ws from to by → 0 < left → a ≡ from + 2 → b ≡ to + 2 → m + 1 ≡ left → relocated_range ws from to left by ≡ whole → relocated_range next a b m by ≡ whole
-move_next ws from to by left a b m e h i j k f = ap (λ (l : List ℕ). relocated_range l a b m by) e ∙ move_on ws from to left by a b m h i j k ∙ f
+  -- n instructions are moved, and then the next one
+  pub move_next : (words : List ℕ) {now next : List ℕ} (from to n : ℕ)
+      → now ≡ relocated_range words from to n by
+      → next ≡ relocated_one now (from + n * 2) (to + n * 2) by
+      → next ≡ relocated_range words from to (n + 1) by
+  unfolding relocated_range
+  move_next words from to n e f = f ∙ rw e (sym (move_parts words from to n 1))

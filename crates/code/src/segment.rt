@@ -14,33 +14,30 @@ pub const CONTINUE: u32 = 0xfb00_0000;
 
 pub const JUMP: u32 = 0x2000_0000;
 
-fn wide(x: u16) -> usize
-    ensures { (result ≡ x) × (result < 65536) }
-{
-    x as usize
-}
-
 // Appends an instruction to the open code, and gives the place after it.
+#[tactic(auto, unfolding(crate::specs::Segments::emitted, crate::specs::Segments::emitted_top))]
 pub fn emit(ws: &mut [u32], top: u16, front: u32, back: u32) -> u16
     ensures { (result ≡ emitted_top top) × (ws.new ≡ emitted ws.old top front back) }
 {
     if top < layout::CODE_ROOM {
-        put_pair(ws, wide(top) * 2, front, back);
+        put_pair(ws, usize::from(top) * 2, front, back);
         return top + 1;
     }
     top
 }
 
 // Gives the instruction at a place of the open code its target.
+#[tactic(auto, unfolding(crate::specs::Segments::targeted))]
 pub fn set_target(ws: &mut [u32], at: u16, target: u32)
     ensures { ws.new ≡ targeted ws.old at target }
 {
     if at < layout::CODE_ROOM {
-        put_word(ws, wide(at) * 2 + 1, target);
+        put_word(ws, usize::from(at) * 2 + 1, target);
     }
 }
 
 // A Break or Continue that waits becomes a Jump to its loop's end or check.
+#[tactic(auto, unfolding(crate::specs::Segments::break_resolved))]
 fn resolve_break(ws: &mut [u32], at: usize, check: u32, cleanup: u32)
     requires { at < 4294967296 }
     ensures { ws.new ≡ break_resolved ws.old at check cleanup }
@@ -56,42 +53,50 @@ fn resolve_break(ws: &mut [u32], at: usize, check: u32, cleanup: u32)
     }
 }
 
-// Whether the next eight of the instructions left do not wait: what waits has the top bit in its first word. Looked at once in eight.
-fn eight_idle(ws: &[u32], at: usize, left: u16) -> bool
-    requires { (at < 4294967296) × (0 < left) }
-    ensures { Idle ws.now at left result }
+// Whether eight instructions from a place on are there, and none of them waits: what waits has the top bit in its first word. Looked at once in eight.
+#[tactic(auto, using(std::proofs::lemmas::Nat::le_or_l, std::proofs::lemmas::Nat::le_or_r))]
+fn eight_idle(ws: &[u32], at: usize) -> bool
+    requires { at < 4294967296 }
+    ensures { Idle ws.now at 8 result }
 {
-    let i = at * 2;
-    if left % 8 != 0 {
+    let first = at * 2;
+    if ws.len() < first + 15 {
         return false;
     }
-    if ws.len() < i + 15 {
-        return false;
+    let mut fronts = 0;
+    for k in 0..8 {
+        fronts |= ws[first + k * 2];
     }
-    let a = ws[i] | ws[i + 2] | ws[i + 4] | ws[i + 6];
-    let b = ws[i + 8] | ws[i + 10] | ws[i + 12] | ws[i + 14];
-    (a | b) < 0x8000_0000
+    fronts < 0x8000_0000
 }
 
-// Aims the Breaks and Continues of a loop's body: `count` instructions from a place of the open code on.
+// The Breaks and Continues among `count` instructions, one by one.
+#[tactic(auto, using(crate::proofs::Runs::aim_next), unfolding(crate::specs::Segments::range_resolved))]
+fn resolve_each(ws: &mut [u32], from: usize, count: usize, check: u32, cleanup: u32)
+    requires { from + count < 4294967296 }
+    ensures { ws.new ≡ range_resolved ws.old from count check cleanup }
+{
+    for i in 0..count {
+        resolve_break(ws, from + i, check, cleanup);
+    }
+}
+
+// Aims the Breaks and Continues of a loop's body: `count` instructions from a place of the open code on, eight passed at once where none of them waits.
 pub fn resolve_breaks(ws: &mut [u32], from: u16, count: u16, check: u32, cleanup: u32)
     ensures { ws.new ≡ range_resolved ws.old from count check cleanup }
 {
-    let mut at = wide(from);
-    let mut left = count;
-    while left > 0 {
-        if eight_idle(ws, at, left) {
-            at += 8;
-            left -= 8;
-            continue;
+    let start = usize::from(from);
+    let all = usize::from(count);
+    for k in 0..all.div_ceil(8) {
+        let passed = k * 8;
+        if !eight_idle(ws, start + passed) {
+            resolve_each(ws, start + passed, (all - passed).min(8), check, cleanup);
         }
-        resolve_break(ws, at, check, cleanup);
-        at += 1;
-        left -= 1;
     }
 }
 
 // Copies an instruction, `by` added to its target where it has one.
+#[tactic(auto, unfolding(crate::specs::Segments::relocated_one))]
 fn move_one(ws: &mut [u32], from: usize, to: usize, by: u32)
     requires { (from < 4294967296) × (to < 4294967296) }
     ensures { ws.new ≡ relocated_one ws.old from to by }
@@ -103,30 +108,32 @@ fn move_one(ws: &mut [u32], from: usize, to: usize, by: u32)
 }
 
 // Copies `count` of them.
+#[tactic(auto, using(crate::proofs::Runs::move_next), unfolding(crate::specs::Segments::relocated_range))]
 fn move_all(ws: &mut [u32], from: usize, to: usize, count: usize, by: u32)
     requires { (from + count * 2 < 4294967296) × (to + count * 2 < 4294967296) }
     ensures { ws.new ≡ relocated_range ws.old from to count by }
 {
-    let mut a = from;
-    let mut b = to;
-    let mut left = count;
-    while left > 0 {
-        move_one(ws, a, b, by);
-        a += 2;
-        b += 2;
-        left -= 1;
+    for i in 0..count {
+        move_one(ws, from + i * 2, to + i * 2, by);
     }
 }
 
 // Puts `count` instructions of the open code behind the finished ones, their start there added to their targets, and gives how many are finished then.
+#[tactic(auto, unfolding(crate::specs::Segments::moved, crate::specs::Segments::moved_count))]
 pub fn move_segment(ws: &mut [u32], from: u16, count: u16, finished: u16) -> u16
     ensures { (result ≡ moved_count count finished) × (ws.new ≡ moved ws.old from count finished) }
 {
-    let n = wide(count);
-    let d = wide(finished);
-    if d + n <= layout::CODE_ROOM as usize {
-        move_all(ws, wide(from) * 2, layout::FINISHED + d * 2, n, d as u32);
-        return (d + n) as u16;
+    let end = finished.saturating_add(count);
+    if end <= layout::CODE_ROOM {
+        let to = layout::FINISHED + usize::from(finished) * 2;
+        move_all(
+            ws,
+            usize::from(from) * 2,
+            to,
+            usize::from(count),
+            u32::from(finished),
+        );
+        return end;
     }
     finished
 }

@@ -6,64 +6,52 @@ use builder::State;
 use program::Flags;
 
 // One more operand, which no Push puts there.
-pub(crate) fn operand(st: State) -> State
+#[tactic(auto, unfolding(crate::specs::Steps::operand_entered))]
+pub(crate) fn operand(mut st: State) -> State
     ensures { result ≡ operand_entered st }
 {
-    let d = st.depth;
-    let e = depth::with_operand(d);
-    let mut s = st;
-    s.depth = e;
-    s
+    st.depth.push_operand();
+    st
 }
 
-pub(crate) fn pop(st: State, k: u16) -> State
+#[tactic(auto, unfolding(crate::specs::Steps::popped))]
+pub(crate) fn pop(mut st: State, k: u16) -> State
     ensures { result ≡ popped k st }
 {
-    let d = st.depth;
-    let e = depth::without_operands(d, k);
-    let mut s = st;
-    s.depth = e;
-    s
+    st.depth.pop_operands(k);
+    st
 }
 
-pub(crate) fn enter_loop(st: State) -> State
+#[tactic(auto, unfolding(crate::specs::Steps::loop_entered))]
+pub(crate) fn enter_loop(mut st: State) -> State
     ensures { result ≡ loop_entered st }
 {
-    let d = st.depth;
-    let e = depth::with_loop(d);
-    let mut s = st;
-    s.depth = e;
-    s
+    st.depth.enter_loop();
+    st
 }
 
-pub(crate) fn leave_loop(st: State) -> State
+#[tactic(auto, unfolding(crate::specs::Steps::loop_left))]
+pub(crate) fn leave_loop(mut st: State) -> State
     ensures { result ≡ loop_left st }
 {
-    let d = st.depth;
-    let e = depth::without_loop(d);
-    let mut s = st;
-    s.depth = e;
-    s
+    st.depth.leave_loop();
+    st
 }
 
-pub(crate) fn enter_handler(st: State) -> State
+#[tactic(auto, unfolding(crate::specs::Steps::handler_entered))]
+pub(crate) fn enter_handler(mut st: State) -> State
     ensures { result ≡ handler_entered st }
 {
-    let d = st.depth;
-    let e = depth::with_handler(d);
-    let mut s = st;
-    s.depth = e;
-    s
+    st.depth.enter_handler();
+    st
 }
 
-pub(crate) fn leave_handler(st: State) -> State
+#[tactic(auto, unfolding(crate::specs::Steps::handler_left))]
+pub(crate) fn leave_handler(mut st: State) -> State
     ensures { result ≡ handler_left st }
 {
-    let d = st.depth;
-    let e = depth::without_handler(d);
-    let mut s = st;
-    s.depth = e;
-    s
+    st.depth.leave_handler();
+    st
 }
 
 pub(crate) fn flag(st: State, bits: u16) -> State
