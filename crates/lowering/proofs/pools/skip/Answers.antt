@@ -1,12 +1,6 @@
-use native.Mathlib.Nat.{mul-add}
 use native.Mathlib.Omega.{arith}
 use Rattle.lowering.proofs.Skipped.{without_on}
 use Rattle.lowering.proofs.pools.skip.Goals as goal
 
-pub loop-i-preserved : goal.loop-i-preserved
-loop-i-preserved c = (
-  omega arith,
-  omega (arith, mul-add c.args.stride c.loop-i.i 8),
-  omega arith,
-  without_on c.args.ws.now _ _ c.args.key _ _ _ c.loop-i.invariant.1 c.loop-i.invariant.3 (c.none_is.ensures c.if-not-none_is.false),
-)
+pub loop-eight-preserved : goal.loop-eight-preserved
+loop-eight-preserved g c k l = without_on c.args.ws.now _ _ _ _ 8 c.loop-eight.invariant (c.none_is.ensures c.if-not-none_is.false) k (omega arith)
