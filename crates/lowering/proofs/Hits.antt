@@ -1,5 +1,5 @@
 -- What a hit says of the words: it is the decision of any claim that they decide. Assumes nothing.
-use mathlib.Core.Path.{◌≡◌, refl, sym}
+use mathlib.Core.Path.{◌≡◌, refl, sym, ◌∙◌}
 use mathlib.Core.Bool.{Bool, true, false, ◌&&◌, true≢false}
 use mathlib.Core.List.{List, [], ◌∷◌}
 use Prim.Native.Nat.{ℕ, zero, suc, ◌+◌, ◌*◌, ◌-◌, ◌<◌}
@@ -43,13 +43,16 @@ module _ (W : List ℕ) where
   stands_false at (suc n) (a ∷ words) zero l m e = let z : at + 0 ≡ at = omega arith in rw (rw z at e)
   stands_false at (suc n) (a ∷ words) (suc j) l m e = let z : at + suc j ≡ at + 1 + j = omega arith in and_false _ _ (stands_false (at + 1) n words j (omega arith) (omega arith) (rw z at e))
 
-  -- a word that is the key's: the words behind it decide
-  pub stands_on : (at n : ℕ) (words : List ℕ) (j : ℕ) → j < n → j < length words → get_or W (at + j) 0 ≡ get_or words j 0 → stands W (at + j) (take (n - j) (drop j words)) ≡ stands W (at + (j + 1)) (take (n - (j + 1)) (drop (j + 1) words))
+  -- the words compared one by one: those behind the first j decide
+  abbrev pub Stood : ℕ → ℕ → List ℕ → ℕ → Type 0
+  Stood at n words j = stands W at (take n words) ≡ stands W (at + j) (take (n - j) (drop j words))
+
+  pub stood_on : (at n : ℕ) (words : List ℕ) (j : ℕ) → j < n → j < length words → get_or W (at + j) 0 ≡ get_or words j 0 → Stood at n words j → Stood at n words (j + 1)
   unfolding stands
-  stands_on at n words j l m e =
+  stood_on at n words j l m e s =
       let z : at + j + 1 ≡ at + (j + 1) = omega arith in
       let k : n - j ≡ suc (n - (j + 1)) = omega arith in
-      rw (k, drop_more words j 0 m, eq-eqb _ _ e, z)
+      s ∙ rw (k, drop_more words j 0 m, eq-eqb _ _ e, z)
 
 -- two of them
 abbrev Pair : List ℕ → ℕ → ℕ → ℕ → Type 0

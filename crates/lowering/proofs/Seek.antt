@@ -26,6 +26,6 @@ module _ (hit : ℕ → Bool) where
   pub seek_hit : (n i : ℕ) → i < n → true ≡ hit i → Sought n i → i ≡ seek hit n 0
   seek_hit n i l h s = sym (s ∙ turn n i l ∙ ap (λ b. cond b i (seek hit (n - (i + 1)) (i + 1))) (sym h))
 
-  pub seek_end : (n i : ℕ) → n ≤ i → Sought n i → i ≡ seek hit n 0
+  pub seek_end : (n i : ℕ) → n ≤ i → i ≤ n → Sought n i → n ≡ seek hit n 0
   unfolding seek
-  seek_end n i l s = let e : n - i ≡ 0 = omega arith in sym (s ∙ ap (λ k. seek hit k i) e)
+  seek_end n i l u s = let z : n - i ≡ 0 = omega arith in let e : i ≡ n = omega arith in sym (s ∙ ap (λ k. seek hit k i) z ∙ e)

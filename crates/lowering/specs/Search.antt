@@ -31,6 +31,10 @@ name_hit W from a b = hit W from 3 (a ∷ b ∷ [])
 abbrev pub member_hit : List ℕ → ℕ → ℕ → ℕ → ℕ → ℕ → ℕ → Bool
 member_hit W from a b c d = hit W from 6 (a ∷ b ∷ c ∷ d ∷ [])
 
+-- none of the n entries from i on is a hit
+abbrev pub NoneHas : (ℕ → Bool) → ℕ → ℕ → Type 0
+NoneHas test i n = (k : ℕ) → k < n → test (i + k) ≡ false
+
 -- none of n words from a place on, stride apart, is the key
 abbrev pub Without : List ℕ → ℕ → ℕ → ℕ → ℕ → Type 0
 Without W at stride key n = (k : ℕ) → k < n → eqb (get_or W (at + stride * k) 0) key ≡ false

@@ -1,7 +1,7 @@
 // Entries in regions of a workspace of words: found by key, appended, interned. Past the end a word reads 0, and nothing is written.
-ghost use Rattle.std.specs.Prelude.{◌≡◌, ◌+◌, ◌*◌, ◌^◌, ◌<◌, ◌≤◌, take};
+ghost use Rattle.std.specs.Prelude.{◌≡◌, true, ◌+◌, ◌*◌, ◌^◌, ◌<◌, ◌≤◌, take};
 ghost use Rattle.std.proofs.lemmas.List.Edits.{sets};
-ghost use Rattle.lowering.specs.Search.{seek, hit, Without, NoneIs};
+ghost use Rattle.lowering.specs.Search.{seek, hit, NoneHas, NoneIs};
 ghost use Rattle.lowering.specs.Regions.{Appends, Interns};
 
 use crate::regions::Region;
@@ -29,19 +29,6 @@ fn none_is<const WIDTH: usize>(ws: &[u32], at: usize, key: u32) -> bool
     !some
 }
 
-// How many of `n` words, `WIDTH` apart, are passed, eight at a time, with no key among them.
-fn skip<const WIDTH: usize>(ws: &[u32], from: usize, n: u16, key: u32) -> u16
-    requires { (from < 2 ^ 20) × (WIDTH < 8) }
-    ensures { (result ≤ n) × Without ws.now from WIDTH key result }
-{
-    for eight in 0..n / 8 {
-        if !none_is::<WIDTH>(ws, from + WIDTH * (8 * (eight as usize)), key) {
-            return 8 * eight;
-        }
-    }
-    8 * (n / 8)
-}
-
 impl<const WIDTH: usize, const KEY: usize> Region<WIDTH, KEY> {
     // The place of an entry.
     fn place(&self, i: u16) -> usize
@@ -63,15 +50,36 @@ impl<const WIDTH: usize, const KEY: usize> Region<WIDTH, KEY> {
         true
     }
 
+    // Whether eight entries are there, and one word of the key is in none of them.
+    fn none_has(&self, ws: &[u32], i: u16, words: &[u32; WIDTH]) -> bool
+        ensures { result ≡ true → NoneHas (hit ws.now self.now.from WIDTH (take KEY words.now)) i 8 }
+    {
+        let at = self.place(i);
+        for j in 0..KEY {
+            if none_is::<WIDTH>(ws, at + j, words[j]) {
+                return true;
+            }
+        }
+        false
+    }
+
+    // How many of `n` entries are passed, eight at a time, with none of that key among them.
+    fn skip(&self, ws: &[u32], n: u16, words: &[u32; WIDTH]) -> u16
+        ensures { (result ≤ n) × NoneHas (hit ws.now self.now.from WIDTH (take KEY words.now)) 0 result }
+    {
+        for eight in 0..n / 8 {
+            if !self.none_has(ws, 8 * eight, words) {
+                return 8 * eight;
+            }
+        }
+        8 * (n / 8)
+    }
+
     // The number of the first of `n` entries that has the key of the one given, or `n`: that of an entry appended.
     fn find(&self, ws: &[u32], n: u16, words: &[u32; WIDTH]) -> u16
         ensures { result ≡ seek (hit ws.now self.now.from WIDTH (take KEY words.now)) n 0 }
     {
-        let mut first: u16 = 0;
-        for j in 0..KEY {
-            first += skip::<WIDTH>(ws, self.place(first) + j, n - first, words[j]);
-        }
-        for i in first..n {
+        for i in self.skip(ws, n, words)..n {
             if self.has_key(ws, i, words) {
                 return i;
             }

@@ -1,12 +1,7 @@
-use Prim.Native.Nat.{◌≤◌}
 use lib.ListN.{take}
 use Rattle.lowering.specs.Search.{hit}
 use Rattle.lowering.proofs.Seek.{Sought}
-use Rattle.lowering.proofs.Skipped.{Missed}
 use Rattle.lowering.proofs.regions.Region.find.Given as goal
-
-abbrev pub invariant-loop-j : goal.invariant-loop-j
-invariant-loop-j g l = (l.first ≤ l.n) × Missed (hit l.ws l.self.from g.row.WIDTH (take g.row.KEY l.words)) l.first
 
 abbrev pub invariant-loop-i : goal.invariant-loop-i
 invariant-loop-i g l = Sought (hit l.ws l.self.from g.row.WIDTH (take g.row.KEY l.words)) l.n l.i

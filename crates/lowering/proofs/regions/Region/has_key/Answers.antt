@@ -3,7 +3,7 @@ use Prim.Native.Nat.{◌-◌}
 use native.Mathlib.Omega.{arith}
 use borrow.Author.Tests.{ne_eqb}
 use Rattle.lowering.specs.Search.{stands, hit}
-use Rattle.lowering.proofs.Hits.{stands_false, stands_on}
+use Rattle.lowering.proofs.Hits.{stands_false, stood_on}
 use Rattle.lowering.proofs.regions.Region.has_key.Goals as goal
 
 pub returns-then-word-words : goal.returns-then-word-words
@@ -15,7 +15,7 @@ returns-then-word-words g c =
 pub loop-j-preserved : goal.loop-j-preserved
 loop-j-preserved g c =
     let w = c.args.self.now.within in
-    c.loop-j.invariant ∙ stands_on c.args.ws.now _ _ c.args.words.now c.loop-j.j c.loop-j-test.true (omega arith) (sym c.word.ensures ∙ c.if-word-words.false)
+    stood_on c.args.ws.now _ _ c.args.words.now c.loop-j.j c.loop-j-test.true (omega arith) (sym c.word.ensures ∙ c.if-word-words.false) c.loop-j.invariant
 
 pub returns : goal.returns
 unfolding hit stands
