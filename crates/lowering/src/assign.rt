@@ -81,7 +81,7 @@ fn path_end(tree: &[u8], at: usize, levels: u16) -> PathEnd
 fn add_path(ws: &mut [u32], st: State, hash: u64) -> State
     ensures { ◌≡◌ {A = Held} (result, ws.new) (path_added hash (st, ws.old)) }
 {
-    let n = regions::PATHS.append(ws, st.paths, [high(hash), low(hash)]);
+    let n = regions::PATHS.append(ws, st.paths, &[high(hash), low(hash)]);
     let mut s = st;
     s.paths = n;
     s
@@ -132,7 +132,7 @@ fn add_store(ws: &mut [u32], st: State, root: StoreRoot, first: u16, count: u16)
 {
     let k = st.stores;
     let entry = [root_kind(root), root_index(root) as u32, first as u32, count as u32];
-    let n = regions::STORES.append(ws, k, entry);
+    let n = regions::STORES.append(ws, k, &entry);
     let mut s = st;
     s.stores = n;
     StoreEntry {

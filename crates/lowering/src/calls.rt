@@ -27,7 +27,7 @@ pub(crate) fn begin_call(
     let k = st.calls;
     let first = st.arguments;
     let entry = [index as u32, impl_idx as u32, count as u32, first as u32];
-    let n = regions::CALLS.append(ws, k, entry);
+    let n = regions::CALLS.append(ws, k, &entry);
     let mut s = st;
     s.calls = n;
     s.arguments = sum(first, count);

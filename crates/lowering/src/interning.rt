@@ -72,7 +72,7 @@ pub struct PostEntry {
 pub(crate) fn konst(ws: &mut [u32], st: State, bits: u32) -> ConstEntry
     ensures { ◌≡◌ {A = Found} (of_const result, ws.new) (konst bits (st, ws.old)) }
 {
-    let i = regions::CONSTS.intern(ws, st.consts, [bits]);
+    let i = regions::CONSTS.intern(ws, st.consts, &[bits]);
     let mut s = st;
     s.consts = i.count;
     ConstEntry {
@@ -84,7 +84,7 @@ pub(crate) fn konst(ws: &mut [u32], st: State, bits: u32) -> ConstEntry
 pub(crate) fn hash(ws: &mut [u32], st: State, h: u64) -> HashEntry
     ensures { ◌≡◌ {A = Found} (of_hash result, ws.new) (hash h (st, ws.old)) }
 {
-    let i = regions::HASHES.intern(ws, st.hashes, [high(h), low(h)]);
+    let i = regions::HASHES.intern(ws, st.hashes, &[high(h), low(h)]);
     let mut s = st;
     s.hashes = i.count;
     HashEntry {
@@ -108,7 +108,7 @@ pub(crate) fn name(ws: &mut [u32], st: State, n: NameRef) -> NameEntry
     ensures { ◌≡◌ {A = Found} (of_name result, ws.new) (name n (st, ws.old)) }
 {
     let h = n.hash;
-    let i = regions::NAMES.intern(ws, st.names, [high(h), low(h), text_place(n.at)]);
+    let i = regions::NAMES.intern(ws, st.names, &[high(h), low(h), text_place(n.at)]);
     let mut s = st;
     s.names = i.count;
     NameEntry {
@@ -124,7 +124,7 @@ pub(crate) fn member(ws: &mut [u32], st: State, own: NameRef, last: NameRef) -> 
     let h = own.hash;
     let l = last.hash;
     let entry = [high(h), low(h), high(l), low(l), text_place(own.at), text_place(last.at)];
-    let i = regions::MEMBERS.intern(ws, st.members, entry);
+    let i = regions::MEMBERS.intern(ws, st.members, &entry);
     let mut s = st;
     s.members = i.count;
     MemberEntry {
@@ -143,7 +143,7 @@ fn wide(x: u16) -> u32
 fn slot(ws: &mut [u32], st: State, named: NameIdx) -> TempEntry
     ensures { ◌≡◌ {A = Found} (of_temp result, ws.new) (slot named.0 (st, ws.old)) }
 {
-    let i = regions::TEMPS.intern(ws, st.temps, [wide(named.0)]);
+    let i = regions::TEMPS.intern(ws, st.temps, &[wide(named.0)]);
     let mut s = st;
     s.temps = i.count;
     TempEntry {
@@ -163,7 +163,7 @@ pub(crate) fn post_of(ws: &mut [u32], st: State, p: PostOp, bits: PostBits) -> P
             index: PostIdx::PLAIN,
         };
     }
-    let i = regions::POSTS.intern(ws, st.posts, [bits.scale, bits.offset]);
+    let i = regions::POSTS.intern(ws, st.posts, &[bits.scale, bits.offset]);
     let mut s = st;
     s.posts = i.count;
     PostEntry {

@@ -88,8 +88,8 @@ impl<const WIDTH: usize, const KEY: usize> Region<WIDTH, KEY> {
     }
 
     // An entry after the `n` there are, if there is room: how many there are now.
-    pub(crate) fn append(&self, ws: &mut [u32], n: u16, words: [u32; WIDTH]) -> u16
-        ensures { Appends n self.now.room ws.old (self.now.from + WIDTH * n) words.entry ws.new result }
+    pub(crate) fn append(&self, ws: &mut [u32], n: u16, words: &[u32; WIDTH]) -> u16
+        ensures { Appends n self.now.room ws.old (self.now.from + WIDTH * n) words.now ws.new result }
     {
         if n >= self.room {
             return n;
@@ -102,10 +102,10 @@ impl<const WIDTH: usize, const KEY: usize> Region<WIDTH, KEY> {
     }
 
     // The first entry with that key: found, or appended if there is room.
-    pub(crate) fn intern(&self, ws: &mut [u32], n: u16, words: [u32; WIDTH]) -> Interned
-        ensures { Interns (hit ws.old self.now.from WIDTH (take KEY words.entry)) n self.now.room ws.old (self.now.from + WIDTH * n) words.entry ws.new result }
+    pub(crate) fn intern(&self, ws: &mut [u32], n: u16, words: &[u32; WIDTH]) -> Interned
+        ensures { Interns (hit ws.old self.now.from WIDTH (take KEY words.now)) n self.now.room ws.old (self.now.from + WIDTH * n) words.now ws.new result }
     {
-        let index = self.find(ws, n, &words);
+        let index = self.find(ws, n, words);
         if index < n {
             return Interned { index, count: n };
         }

@@ -10,4 +10,4 @@ returns-then-n-self g c = appended_full _ _ _ _ _ c.if-n-self.true
 pub returns : goal.returns
 returns g c =
     let e : c.loop-j.j ≡ g.row.WIDTH = omega arith in
-    appended_new _ _ _ _ _ (omega arith) (rw (c.place-at.ensures, take_all c.loop-j.j c.args.words (omega arith)) at c.loop-j.invariant)
+    appended_new _ _ _ _ _ (omega arith) (rw (c.place-at.ensures, take_all c.loop-j.j c.args.words.now (omega arith)) at c.loop-j.invariant)
