@@ -1,23 +1,18 @@
 -- What a hit says of the words: it is the decision of any claim that they decide. Assumes nothing.
-use mathlib.Core.Path.{◌≡◌, refl, sym, ◌∙◌}
-use mathlib.Core.Bool.{Bool, true, false, ◌&&◌, true≢false}
+use mathlib.Core.Path.{◌≡◌, refl, ◌∙◌}
+use mathlib.Core.Bool.{true, false}
 use mathlib.Core.List.{List, [], ◌∷◌}
 use Prim.Native.Nat.{ℕ, zero, suc, ◌+◌, ◌*◌, ◌-◌, ◌<◌}
 use native.Mathlib.Omega.{arith}
 use borrow.Author.Tests.{eqb-true, eq-eqb}
 use lib.Dec.{eqb}
 use lib.ListN.{length, get_or, take, drop}
+use Rattle.std.specs.Cmp.Derive.{both_true}
+use Rattle.std.proofs.Math.Bool.{and-false}
+use Rattle.std.proofs.lemmas.Bool.{and_parts}
 use Rattle.std.proofs.lemmas.List.{drop_more}
 use Rattle.lowering.specs.Search.{stands, hit, word_hit, pair_hit, name_hit, member_hit}
 use Rattle.lowering.proofs.Slots.{same, same_is}
-
-both : (b c : Bool) → b && c ≡ true → (b ≡ true) × (c ≡ true)
-both true c e = (refl, e)
-both false c e = absurd (true≢false (sym e))
-
-and_false : (b c : Bool) → c ≡ false → b && c ≡ false
-and_false false c e = refl
-and_false true c e = e
 
 module _ (W : List ℕ) where
   -- the words from a place on, one by one
@@ -28,12 +23,12 @@ module _ (W : List ℕ) where
   stands_true : (at : ℕ) (key : List ℕ) → Stand at key → stands W at key ≡ true
   unfolding stands
   stands_true at [] s = refl
-  stands_true at (a ∷ key) s = rw (eq-eqb _ a s.0) (stands_true (at + 1) key s.1)
+  stands_true at (a ∷ key) s = both_true (eq-eqb _ a s.0) (stands_true (at + 1) key s.1)
 
   true_stands : (at : ℕ) (key : List ℕ) → stands W at key ≡ true → Stand at key
   unfolding stands
   true_stands at [] e = tt
-  true_stands at (a ∷ key) e = let h = both _ _ e in (eqb-true _ a h.0, true_stands (at + 1) key h.1)
+  true_stands at (a ∷ key) e = let h = and_parts _ _ e in (eqb-true _ a h.0, true_stands (at + 1) key h.1)
 
   -- one word that is another is enough
   pub stands_false : (at n : ℕ) (words : List ℕ) (j : ℕ) → j < n → j < length words → eqb (get_or W (at + j) 0) (get_or words j 0) ≡ false → stands W at (take n words) ≡ false
@@ -41,7 +36,7 @@ module _ (W : List ℕ) where
   stands_false at n [] j l m e = absurd (omega arith)
   stands_false at zero (a ∷ words) j l m e = absurd (omega arith)
   stands_false at (suc n) (a ∷ words) zero l m e = let z : at + 0 ≡ at = omega arith in rw (rw z at e)
-  stands_false at (suc n) (a ∷ words) (suc j) l m e = let z : at + suc j ≡ at + 1 + j = omega arith in and_false _ _ (stands_false (at + 1) n words j (omega arith) (omega arith) (rw z at e))
+  stands_false at (suc n) (a ∷ words) (suc j) l m e = let z : at + suc j ≡ at + 1 + j = omega arith in rw (stands_false (at + 1) n words j (omega arith) (omega arith) (rw z at e)) (and-false _)
 
   -- the words compared one by one: those behind the first j decide
   abbrev pub Stood : ℕ → ℕ → List ℕ → ℕ → Type 0

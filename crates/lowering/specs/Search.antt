@@ -1,5 +1,5 @@
 -- The search for an entry of a region, from the front. Definitions only.
-use Rattle.std.specs.Prelude.{◌≡◌, Bool, true, false, cond, ◌&&◌, List, [], ◌∷◌, ℕ, zero, suc, ◌+◌, ◌*◌, ◌<◌, eqb, get_or}
+use Rattle.std.specs.Prelude.{◌≡◌, Bool, true, false, cond, ◌&&◌, List, [], ◌∷◌, ℕ, zero, suc, ◌+◌, ◌*◌, ◌<◌, ◌≤◌, eqb, get_or}
 
 -- the first of the n numbers from i on at which hit holds, or the one after them
 unfoldable pub seek : (ℕ → Bool) → ℕ → ℕ → ℕ
@@ -31,9 +31,9 @@ name_hit W from a b = hit W from 3 (a ∷ b ∷ [])
 abbrev pub member_hit : List ℕ → ℕ → ℕ → ℕ → ℕ → ℕ → ℕ → Bool
 member_hit W from a b c d = hit W from 6 (a ∷ b ∷ c ∷ d ∷ [])
 
--- none of the n entries from i on is a hit
+-- none of the entries from i up to n is a hit
 abbrev pub NoneHas : (ℕ → Bool) → ℕ → ℕ → Type 0
-NoneHas test i n = (k : ℕ) → k < n → test (i + k) ≡ false
+NoneHas test i n = (k : ℕ) → i ≤ k → k < n → test k ≡ false
 
 -- none of n words from a place on, stride apart, is the key
 abbrev pub Without : List ℕ → ℕ → ℕ → ℕ → ℕ → Type 0

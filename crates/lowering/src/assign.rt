@@ -131,7 +131,12 @@ fn add_store(ws: &mut [u32], st: State, root: StoreRoot, first: u16, count: u16)
     ensures { ◌≡◌ {A = Found} (of_store result, ws.new) (store_added (root_kind root) (root_index root) first count (st, ws.old)) }
 {
     let k = st.stores;
-    let entry = [root_kind(root), root_index(root) as u32, first as u32, count as u32];
+    let entry = [
+        root_kind(root),
+        root_index(root) as u32,
+        first as u32,
+        count as u32,
+    ];
     let n = regions::STORES.append(ws, k, &entry);
     let mut s = st;
     s.stores = n;

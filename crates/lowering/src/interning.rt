@@ -77,7 +77,7 @@ pub(crate) fn konst(ws: &mut [u32], st: State, bits: u32) -> ConstEntry
     s.consts = i.count;
     ConstEntry {
         state: s,
-        index: ConstIdx(wide(i.index)),
+        index: ConstIdx(i.index as u32),
     }
 }
 
@@ -89,7 +89,7 @@ pub(crate) fn hash(ws: &mut [u32], st: State, h: u64) -> HashEntry
     s.hashes = i.count;
     HashEntry {
         state: s,
-        index: HashIdx(wide(i.index)),
+        index: HashIdx(i.index as u32),
     }
 }
 
@@ -97,10 +97,7 @@ pub(crate) fn hash(ws: &mut [u32], st: State, h: u64) -> HashEntry
 fn text_place(at: usize) -> u32
     ensures { result ≡ text_place at }
 {
-    if at == 0 {
-        return 0;
-    }
-    ((at - 1) % 4294967296) as u32
+    (at.saturating_sub(1) % 4294967296) as u32
 }
 
 // A name, by its hash; the first text stays.
@@ -123,7 +120,14 @@ pub(crate) fn member(ws: &mut [u32], st: State, own: NameRef, last: NameRef) -> 
 {
     let h = own.hash;
     let l = last.hash;
-    let entry = [high(h), low(h), high(l), low(l), text_place(own.at), text_place(last.at)];
+    let entry = [
+        high(h),
+        low(h),
+        high(l),
+        low(l),
+        text_place(own.at),
+        text_place(last.at),
+    ];
     let i = regions::MEMBERS.intern(ws, st.members, &entry);
     let mut s = st;
     s.members = i.count;
@@ -133,17 +137,11 @@ pub(crate) fn member(ws: &mut [u32], st: State, own: NameRef, last: NameRef) -> 
     }
 }
 
-fn wide(x: u16) -> u32
-    ensures { result ≡ x }
-{
-    x as u32
-}
-
 // The slot of a temp, by its name.
 fn slot(ws: &mut [u32], st: State, named: NameIdx) -> TempEntry
     ensures { ◌≡◌ {A = Found} (of_temp result, ws.new) (slot named.0 (st, ws.old)) }
 {
-    let i = regions::TEMPS.intern(ws, st.temps, &[wide(named.0)]);
+    let i = regions::TEMPS.intern(ws, st.temps, &[named.0 as u32]);
     let mut s = st;
     s.temps = i.count;
     TempEntry {

@@ -7,14 +7,15 @@ ghost use Rattle.lowering.specs.Regions.{Appends, Interns};
 use crate::regions::Region;
 use workspace::words::{put_word, word};
 
-// What interning gives: the entry's number, and how many entries there are now.
+// What interning gives: the entry's number, and how many entries there are now. A key that is not found gives the number that the appended entry takes, so
+// a caller asks for no case.
 #[derive(Drop)]
 pub struct Interned {
     pub index: u16,
     pub count: u16,
 }
 
-// Whether eight words from a place on, `WIDTH` apart, are there, and none of them is the key.
+// Whether eight words from a place on, `WIDTH` apart, are there, and none of them is the key. All eight are compared, with no branch between them.
 fn none_is<const WIDTH: usize>(ws: &[u32], at: usize, key: u32) -> bool
     requires { (at < 2 ^ 22) × (WIDTH < 8) }
     ensures { NoneIs ws.now at WIDTH key result }
@@ -52,7 +53,7 @@ impl<const WIDTH: usize, const KEY: usize> Region<WIDTH, KEY> {
 
     // Whether eight entries are there, and one word of the key is in none of them.
     fn none_has(&self, ws: &[u32], i: u16, words: &[u32; WIDTH]) -> bool
-        ensures { result ≡ true → NoneHas (hit ws.now self.now.from WIDTH (take KEY words.now)) i 8 }
+        ensures { result ≡ true → NoneHas (hit ws.now self.now.from WIDTH (take KEY words.now)) i (i + 8) }
     {
         let at = self.place(i);
         for j in 0..KEY {
@@ -75,7 +76,7 @@ impl<const WIDTH: usize, const KEY: usize> Region<WIDTH, KEY> {
         8 * (n / 8)
     }
 
-    // The number of the first of `n` entries that has the key of the one given, or `n`: that of an entry appended.
+    // The number of the first of `n` entries that has the key of the one given, or `n`, as `seek` has it: that of an entry appended.
     fn find(&self, ws: &[u32], n: u16, words: &[u32; WIDTH]) -> u16
         ensures { result ≡ seek (hit ws.now self.now.from WIDTH (take KEY words.now)) n 0 }
     {
@@ -88,6 +89,7 @@ impl<const WIDTH: usize, const KEY: usize> Region<WIDTH, KEY> {
     }
 
     // An entry after the `n` there are, if there is room: how many there are now.
+    #[tactic(auto, unfolding(crate::specs::Regions::appended_count, crate::specs::Regions::appended_words))]
     pub(crate) fn append(&self, ws: &mut [u32], n: u16, words: &[u32; WIDTH]) -> u16
         ensures { Appends n self.now.room ws.old (self.now.from + WIDTH * n) words.now ws.new result }
     {
@@ -101,7 +103,10 @@ impl<const WIDTH: usize, const KEY: usize> Region<WIDTH, KEY> {
         n + 1
     }
 
-    // The first entry with that key: found, or appended if there is room.
+    // The first entry with that key: found, or appended if there is room. The hint keeps the code of the pools of one word apart: without it `leaf` is
+    // taken into `expr`, and equal strings are slower.
+    #[inline]
+    #[tactic(auto, unfolding(crate::specs::Regions::interned, crate::specs::Regions::interned_count, crate::specs::Regions::interned_words))]
     pub(crate) fn intern(&self, ws: &mut [u32], n: u16, words: &[u32; WIDTH]) -> Interned
         ensures { Interns (hit ws.old self.now.from WIDTH (take KEY words.now)) n self.now.room ws.old (self.now.from + WIDTH * n) words.now ws.new result }
     {

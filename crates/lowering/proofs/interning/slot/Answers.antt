@@ -10,4 +10,4 @@ pub returns : goal.returns
 unfolding slot
 returns c =
     let e : 1 * c.args.st.temps ≡ c.args.st.temps = omega arith in
-    rw (← c.wide.ensures) (entered (λ n. set_temps n c.args.st) _ _ _ c.intern-i.ensures.0 (rw e at c.intern-i.ensures.1))
+    entered (λ n. set_temps n c.args.st) _ _ _ c.intern-i.ensures.0 (rw e at c.intern-i.ensures.1)
