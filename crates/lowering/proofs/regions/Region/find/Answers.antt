@@ -1,5 +1,7 @@
 use mathlib.Core.Path.{sym, ◌∙◌}
 use native.Mathlib.Omega.{arith}
+use lib.ListN.{take}
+use Rattle.lowering.specs.Search.{hit}
 use Rattle.lowering.proofs.Slots.{seek_first}
 use Rattle.lowering.proofs.regions.Region.find.Goals as goal
 
@@ -9,4 +11,4 @@ returns-then-has_key g c = sym (seek_first _ c.args.n 0 c.loop-i.i (omega arith)
 pub returns : goal.returns
 returns g c =
     let l = c.skip-i.ensures.0 in
-    sym (seek_first _ c.args.n 0 c.args.n (omega arith) (omega arith) (λ k a b. c.loop-i.invariant k a (omega arith)) (λ b. absurd (omega arith)))
+    sym (seek_first (hit c.args.ws.now c.args.self.now.from g.row.WIDTH (take g.row.KEY c.args.words.now)) c.args.n 0 c.args.n (omega arith) (omega arith) (λ k a b. c.loop-i.invariant k a (omega arith)) (λ b. absurd (omega arith)))
