@@ -1,45 +1,73 @@
 -- What a hit says of the words: it is the decision of any claim that they decide. Assumes nothing.
-use mathlib.Core.Path.{◌≡◌, refl, sym}
-use mathlib.Core.Bool.{Bool, true, false, ◌&&◌, true≢false}
-use mathlib.Core.List.{List}
-use Prim.Native.Nat.{ℕ, ◌+◌, ◌*◌}
+use mathlib.Core.Path.{◌≡◌, refl, ◌∙◌}
+use mathlib.Core.Bool.{true, false}
+use mathlib.Core.List.{List, [], ◌∷◌}
+use Prim.Native.Nat.{ℕ, zero, suc, ◌+◌, ◌*◌, ◌-◌, ◌<◌}
+use native.Mathlib.Omega.{arith}
 use borrow.Author.Tests.{eqb-true, eq-eqb}
-use lib.ListN.{get_or}
-use Rattle.lowering.specs.Search.{pair_at, word_hit, pair_hit, name_hit, member_hit}
+use lib.Dec.{eqb}
+use lib.ListN.{length, get_or, take, drop}
+use Rattle.std.specs.Cmp.Derive.{both_true}
+use Rattle.std.proofs.Math.Bool.{and-false}
+use Rattle.std.proofs.lemmas.Bool.{and_parts}
+use Rattle.std.proofs.lemmas.List.{drop_more}
+use Rattle.lowering.specs.Search.{stands, hit, word_hit, pair_hit, name_hit, member_hit}
 use Rattle.lowering.proofs.Slots.{same, same_is}
 
-both : (b c : Bool) → b && c ≡ true → (b ≡ true) × (c ≡ true)
-both true c e = (refl, e)
-both false c e = absurd (true≢false (sym e))
+module _ (W : List ℕ) where
+  -- the words from a place on, one by one
+  abbrev pub Stand : ℕ → List ℕ → Type 0
+  Stand at [] = Unit {0}
+  Stand at (a ∷ key) = (get_or W at 0 ≡ a) × Stand (at + 1) key
 
-and_true : {b c : Bool} → b ≡ true → c ≡ true → b && c ≡ true
-and_true p q = rw p q
+  stands_true : (at : ℕ) (key : List ℕ) → Stand at key → stands W at key ≡ true
+  unfolding stands
+  stands_true at [] s = refl
+  stands_true at (a ∷ key) s = both_true (eq-eqb _ a s.0) (stands_true (at + 1) key s.1)
 
--- the two words from a place on
-abbrev pub Pair : List ℕ → ℕ → ℕ → ℕ → Type 0
+  true_stands : (at : ℕ) (key : List ℕ) → stands W at key ≡ true → Stand at key
+  unfolding stands
+  true_stands at [] e = tt
+  true_stands at (a ∷ key) e = let h = and_parts _ _ e in (eqb-true _ a h.0, true_stands (at + 1) key h.1)
+
+  -- one word that is another is enough
+  pub stands_false : (at n : ℕ) (words : List ℕ) (j : ℕ) → j < n → j < length words → eqb (get_or W (at + j) 0) (get_or words j 0) ≡ false → stands W at (take n words) ≡ false
+  unfolding stands
+  stands_false at n [] j l m e = absurd (omega arith)
+  stands_false at zero (a ∷ words) j l m e = absurd (omega arith)
+  stands_false at (suc n) (a ∷ words) zero l m e = let z : at + 0 ≡ at = omega arith in rw (rw z at e)
+  stands_false at (suc n) (a ∷ words) (suc j) l m e = let z : at + suc j ≡ at + 1 + j = omega arith in rw (stands_false (at + 1) n words j (omega arith) (omega arith) (rw z at e)) (and-false _)
+
+  -- the words compared one by one: those behind the first j decide
+  abbrev pub Stood : ℕ → ℕ → List ℕ → ℕ → Type 0
+  Stood at n words j = stands W at (take n words) ≡ stands W (at + j) (take (n - j) (drop j words))
+
+  pub stood_on : (at n : ℕ) (words : List ℕ) (j : ℕ) → j < n → j < length words → get_or W (at + j) 0 ≡ get_or words j 0 → Stood at n words j → Stood at n words (j + 1)
+  unfolding stands
+  stood_on at n words j l m e s =
+      let z : at + j + 1 ≡ at + (j + 1) = omega arith in
+      let k : n - j ≡ suc (n - (j + 1)) = omega arith in
+      s ∙ rw (k, drop_more words j 0 m, eq-eqb _ _ e, z)
+
+-- two of them
+abbrev Pair : List ℕ → ℕ → ℕ → ℕ → Type 0
 Pair W at a b = (get_or W at 0 ≡ a) × (get_or W (at + 1) 0 ≡ b)
 
-pub pair_true : (W : List ℕ) (at a b : ℕ) → pair_at W at a b ≡ true → Pair W at a b
-unfolding pair_at
-pair_true W at a b e = let h = both _ _ e in (eqb-true _ _ h.0, eqb-true _ _ h.1)
-
-pub true_pair : (W : List ℕ) (at a b : ℕ) → Pair W at a b → pair_at W at a b ≡ true
-unfolding pair_at
-true_pair W at a b h = and_true (eq-eqb _ _ h.0) (eq-eqb _ _ h.1)
-
 module _ (W : List ℕ) (from : ℕ) {P : Type 0} (d : Dec P) where
+  hit_lem : (width : ℕ) (key : List ℕ) (i : ℕ) → (Stand W (from + width * i) key → P) → (P → Stand W (from + width * i) key) → hit W from width key i ≡ same d
+  unfolding hit
+  hit_lem width key i f g = same_is _ d (λ e. f (true_stands W _ key e)) (λ p. stands_true W _ key (g p))
+
   pub word_hit_lem : (a i : ℕ) → (get_or W (from + i) 0 ≡ a → P) → (P → get_or W (from + i) 0 ≡ a) → word_hit W from a i ≡ same d
-  unfolding word_hit
-  word_hit_lem a i f g = same_is _ d (λ e. f (eqb-true _ _ e)) (λ p. eq-eqb _ _ (g p))
+  word_hit_lem a i f g = let e : from + 1 * i ≡ from + i = omega arith in hit_lem 1 (a ∷ []) i (λ s. f (rw (← e) s.0)) (λ p. rw e (g p, tt))
 
   pub pair_hit_lem : (a b i : ℕ) → (Pair W (from + 2 * i) a b → P) → (P → Pair W (from + 2 * i) a b) → pair_hit W from a b i ≡ same d
-  unfolding pair_hit
-  pair_hit_lem a b i f g = same_is _ d (λ e. f (pair_true _ _ _ _ e)) (λ p. true_pair _ _ _ _ (g p))
+  pair_hit_lem a b i f g = hit_lem 2 (a ∷ b ∷ []) i (λ s. f (s.0, s.1.0)) (λ p. let h = g p in (h.0, (h.1, tt)))
 
   pub name_hit_lem : (a b i : ℕ) → (Pair W (from + 3 * i) a b → P) → (P → Pair W (from + 3 * i) a b) → name_hit W from a b i ≡ same d
-  unfolding name_hit
-  name_hit_lem a b i f g = same_is _ d (λ e. f (pair_true _ _ _ _ e)) (λ p. true_pair _ _ _ _ (g p))
+  name_hit_lem a b i f g = hit_lem 3 (a ∷ b ∷ []) i (λ s. f (s.0, s.1.0)) (λ p. let h = g p in (h.0, (h.1, tt)))
 
   pub member_hit_lem : (a b c e i : ℕ) → (Pair W (from + 6 * i) a b → Pair W (from + 6 * i + 2) c e → P) → (P → Pair W (from + 6 * i) a b) → (P → Pair W (from + 6 * i + 2) c e) → member_hit W from a b c e i ≡ same d
-  unfolding member_hit
-  member_hit_lem a b c e i f g h = same_is _ d (λ t. let k = both _ _ t in f (pair_true _ _ _ _ k.0) (pair_true _ _ _ _ k.1)) (λ p. and_true (true_pair _ _ _ _ (g p)) (true_pair _ _ _ _ (h p)))
+  member_hit_lem a b c e i f g h =
+      let z : from + 6 * i + 1 + 1 ≡ from + 6 * i + 2 = omega arith in
+      hit_lem 6 (a ∷ b ∷ c ∷ e ∷ []) i (λ s. let t = rw z at s.1.1 in f (s.0, s.1.0) (t.0, t.1.0)) (λ p. let k = g p in let m = h p in (k.0, (k.1, rw z (m.0, (m.1, tt)))))

@@ -1,6 +1,4 @@
 pub mod Hits
-pub mod Kept
-pub mod Seek
 pub mod Skipped
 pub mod Slots
 pub mod Entered

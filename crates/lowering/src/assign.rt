@@ -9,7 +9,7 @@ ghost use Rattle.lowering.specs.Rules as R;
 use crate::interning::StoreEntry;
 use crate::parts::{name_instr, post, store_instr, temp_instr};
 use crate::steps::{flag, not_float_only};
-use crate::{interning, pools, regions};
+use crate::{interning, regions};
 use answers::refusals::Refusal;
 use ast::operators;
 use builder::State;
@@ -17,7 +17,7 @@ use payload::Payload;
 use program::opcodes::Opcode;
 use program::{Flags, NameIdx, PostIdx, StoreIdx, TempIdx};
 use workspace::counts::one_more;
-use workspace::layout;
+use workspace::words::{high, low};
 
 // Where a member path ends: whether all its links are members, its root, how many links.
 #[derive(Drop)]
@@ -82,14 +82,7 @@ fn path_end(tree: &[u8], at: usize, levels: u16) -> PathEnd
 fn add_path(ws: &mut [u32], st: State, hash: u64) -> State
     ensures { ◌≡◌ {A = Held} (result, ws.new) (path_added hash (st, ws.old)) }
 {
-    let n = pools::append_pair(
-        ws,
-        regions::PATHS,
-        layout::PATHS_ROOM,
-        st.paths,
-        (hash / 4294967296) as u32,
-        (hash % 4294967296) as u32,
-    );
+    let n = regions::PATHS.append(ws, st.paths, &[high(hash), low(hash)]);
     let mut s = st;
     s.paths = n;
     s
@@ -139,16 +132,13 @@ fn add_store(ws: &mut [u32], st: State, root: StoreRoot, first: u16, count: u16)
     ensures { ◌≡◌ {A = Found} (of_store result, ws.new) (store_added (root_kind root) (root_index root) first count (st, ws.old)) }
 {
     let k = st.stores;
-    let n = pools::append_four(
-        ws,
-        regions::STORES,
-        layout::STORES_ROOM,
-        k,
+    let entry = [
         root_kind(root),
         root_index(root) as u32,
         first as u32,
         count as u32,
-    );
+    ];
+    let n = regions::STORES.append(ws, k, &entry);
     let mut s = st;
     s.stores = n;
     StoreEntry {

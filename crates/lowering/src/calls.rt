@@ -8,7 +8,7 @@ ghost use Rattle.lowering.specs.Parts.{call_begun, argument_closed};
 
 use crate::interning::CallEntry;
 use crate::parts::instr;
-use crate::{pools, regions};
+use crate::regions;
 use builder::{State, segments};
 use program::CallIdx;
 use program::opcodes::Opcode;
@@ -27,16 +27,8 @@ pub(crate) fn begin_call(
 {
     let k = st.calls;
     let first = st.arguments;
-    let n = pools::append_four(
-        ws,
-        regions::CALLS,
-        layout::CALLS_ROOM,
-        k,
-        index as u32,
-        impl_idx as u32,
-        count as u32,
-        first as u32,
-    );
+    let entry = [index as u32, impl_idx as u32, count as u32, first as u32];
+    let n = regions::CALLS.append(ws, k, &entry);
     let mut s = st;
     s.calls = n;
     s.arguments = sum(first, count);

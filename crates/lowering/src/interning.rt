@@ -5,13 +5,12 @@ ghost use Rattle.lowering.specs.Pools.{Found, konst, post, hash, name, slot, tem
 ghost use Rattle.lowering.specs.Kinds.{of_const, of_hash, of_name, of_temp, of_member, of_post};
 ghost use Rattle.builder.specs.Steps.{Held};
 
-use crate::{pools, regions};
+use crate::regions;
 use builder::State;
 use numeric::{PostBits, PostOp};
 use payload::NameRef;
 use program::{CallIdx, ConstIdx, HashIdx, MemberIdx, NameIdx, PostIdx, StoreIdx, TempIdx};
 use workspace::counts::one_more;
-use workspace::layout;
 use workspace::words::{high, low};
 
 // The state and an index of no kind: the definitions' form, and that of a place in the code.
@@ -73,31 +72,24 @@ pub struct PostEntry {
 pub(crate) fn konst(ws: &mut [u32], st: State, bits: u32) -> ConstEntry
     ensures { ◌≡◌ {A = Found} (of_const result, ws.new) (konst bits (st, ws.old)) }
 {
-    let i = pools::intern_word(ws, regions::CONSTS, layout::CONSTS_ROOM, st.consts, bits);
+    let i = regions::CONSTS.intern(ws, st.consts, &[bits]);
     let mut s = st;
     s.consts = i.count;
     ConstEntry {
         state: s,
-        index: ConstIdx(wide(i.index)),
+        index: ConstIdx(i.index as u32),
     }
 }
 
 pub(crate) fn hash(ws: &mut [u32], st: State, h: u64) -> HashEntry
     ensures { ◌≡◌ {A = Found} (of_hash result, ws.new) (hash h (st, ws.old)) }
 {
-    let i = pools::intern_pair(
-        ws,
-        regions::HASHES,
-        layout::HASHES_ROOM,
-        st.hashes,
-        high(h),
-        low(h),
-    );
+    let i = regions::HASHES.intern(ws, st.hashes, &[high(h), low(h)]);
     let mut s = st;
     s.hashes = i.count;
     HashEntry {
         state: s,
-        index: HashIdx(wide(i.index)),
+        index: HashIdx(i.index as u32),
     }
 }
 
@@ -105,10 +97,7 @@ pub(crate) fn hash(ws: &mut [u32], st: State, h: u64) -> HashEntry
 fn text_place(at: usize) -> u32
     ensures { result ≡ text_place at }
 {
-    if at == 0 {
-        return 0;
-    }
-    ((at - 1) % 4294967296) as u32
+    (at.saturating_sub(1) % 4294967296) as u32
 }
 
 // A name, by its hash; the first text stays.
@@ -116,15 +105,7 @@ pub(crate) fn name(ws: &mut [u32], st: State, n: NameRef) -> NameEntry
     ensures { ◌≡◌ {A = Found} (of_name result, ws.new) (name n (st, ws.old)) }
 {
     let h = n.hash;
-    let i = pools::intern_name(
-        ws,
-        regions::NAMES,
-        layout::NAMES_ROOM,
-        st.names,
-        high(h),
-        low(h),
-        text_place(n.at),
-    );
+    let i = regions::NAMES.intern(ws, st.names, &[high(h), low(h), text_place(n.at)]);
     let mut s = st;
     s.names = i.count;
     NameEntry {
@@ -139,18 +120,15 @@ pub(crate) fn member(ws: &mut [u32], st: State, own: NameRef, last: NameRef) -> 
 {
     let h = own.hash;
     let l = last.hash;
-    let i = pools::intern_member(
-        ws,
-        regions::MEMBERS,
-        layout::MEMBERS_ROOM,
-        st.members,
+    let entry = [
         high(h),
         low(h),
         high(l),
         low(l),
         text_place(own.at),
         text_place(last.at),
-    );
+    ];
+    let i = regions::MEMBERS.intern(ws, st.members, &entry);
     let mut s = st;
     s.members = i.count;
     MemberEntry {
@@ -159,23 +137,11 @@ pub(crate) fn member(ws: &mut [u32], st: State, own: NameRef, last: NameRef) -> 
     }
 }
 
-fn wide(x: u16) -> u32
-    ensures { result ≡ x }
-{
-    x as u32
-}
-
 // The slot of a temp, by its name.
 fn slot(ws: &mut [u32], st: State, named: NameIdx) -> TempEntry
     ensures { ◌≡◌ {A = Found} (of_temp result, ws.new) (slot named.0 (st, ws.old)) }
 {
-    let i = pools::intern_word(
-        ws,
-        regions::TEMPS,
-        layout::TEMPS_ROOM,
-        st.temps,
-        wide(named.0),
-    );
+    let i = regions::TEMPS.intern(ws, st.temps, &[named.0 as u32]);
     let mut s = st;
     s.temps = i.count;
     TempEntry {
@@ -195,14 +161,7 @@ pub(crate) fn post_of(ws: &mut [u32], st: State, p: PostOp, bits: PostBits) -> P
             index: PostIdx::PLAIN,
         };
     }
-    let i = pools::intern_pair(
-        ws,
-        regions::POSTS,
-        layout::POSTS_ROOM,
-        st.posts,
-        bits.scale,
-        bits.offset,
-    );
+    let i = regions::POSTS.intern(ws, st.posts, &[bits.scale, bits.offset]);
     let mut s = st;
     s.posts = i.count;
     PostEntry {

@@ -1,333 +1,121 @@
 // Entries in regions of a workspace of words: found by key, appended, interned. Past the end a word reads 0, and nothing is written.
-ghost use Rattle.std.specs.Prelude.{◌≡◌, [], ◌∷◌, ◌+◌, ◌*◌, ◌^◌, ◌<◌, ◌≤◌};
+ghost use Rattle.std.specs.Prelude.{◌≡◌, true, ◌+◌, ◌*◌, ◌^◌, ◌<◌, ◌≤◌, take};
 ghost use Rattle.std.proofs.lemmas.List.Edits.{sets};
-ghost use Rattle.lowering.specs.Search.{seek, pair_at, word_hit, pair_hit, name_hit, member_hit, Without, NoneIs};
+ghost use Rattle.lowering.specs.Search.{seek, hit, NoneHas, NoneIs};
 ghost use Rattle.lowering.specs.Regions.{Appends, Interns};
 
-use workspace::words::{put_pair, put_word, word};
+use crate::regions::Region;
+use workspace::words::{put_word, word};
 
-// What interning gives: the entry's number, and how many entries there are now.
+// What interning gives: the entry's number, and how many entries there are now. A key that is not found gives the number that the appended entry takes, so
+// a caller asks for no case.
 #[derive(Drop)]
 pub struct Interned {
     pub index: u16,
     pub count: u16,
 }
 
-fn pair_at(ws: &[u32], at: usize, a: u32, b: u32) -> bool
-    requires { at < 2 ^ 22 }
-    ensures { result ≡ pair_at ws.now at a b }
+// Whether eight words from a place on, `WIDTH` apart, are there, and none of them is the key. All eight are compared, with no branch between them: a branch
+// at each is slower, by a third on constants.
+fn none_is<const WIDTH: usize>(ws: &[u32], at: usize, key: u32) -> bool
+    requires { (at < 2 ^ 22) × (WIDTH < 8) }
+    ensures { NoneIs ws.now at WIDTH key result }
 {
-    if word(ws, at) != a {
+    if ws.len() <= at + WIDTH * 7 {
         return false;
     }
-    word(ws, at + 1) == b
-}
-
-fn word_hit(ws: &[u32], from: u16, a: u32, i: u16) -> bool
-    ensures { result ≡ word_hit ws.now from a i }
-{
-    word(ws, (from as usize) + (i as usize)) == a
-}
-
-fn pair_hit(ws: &[u32], from: u16, a: u32, b: u32, i: u16) -> bool
-    ensures { result ≡ pair_hit ws.now from a b i }
-{
-    pair_at(ws, (from as usize) + 2 * (i as usize), a, b)
-}
-
-fn name_hit(ws: &[u32], from: u16, a: u32, b: u32, i: u16) -> bool
-    ensures { result ≡ name_hit ws.now from a b i }
-{
-    pair_at(ws, (from as usize) + 3 * (i as usize), a, b)
-}
-
-fn member_hit(ws: &[u32], from: u16, a: u32, b: u32, c: u32, d: u32, i: u16) -> bool
-    ensures { result ≡ member_hit ws.now from a b c d i }
-{
-    let at = (from as usize) + 6 * (i as usize);
-    if pair_at(ws, at, a, b) {
-        return pair_at(ws, at + 2, c, d);
+    let mut some = false;
+    for i in 0..8 {
+        some |= ws[at + WIDTH * i] == key;
     }
-    false
+    !some
 }
 
-// Whether eight words from a place on, `stride` apart, are there, and none of them is the key.
-fn none_is(ws: &[u32], at: usize, stride: usize, key: u32) -> bool
-    requires { (at < 2 ^ 22) × (stride < 8) }
-    ensures { NoneIs ws.now at stride key result }
-{
-    if ws.len() <= at + stride * 7 {
-        return false;
+impl<const WIDTH: usize, const KEY: usize> Region<WIDTH, KEY> {
+    // The place of an entry.
+    fn place(&self, i: u16) -> usize
+        ensures { result ≡ self.now.from + WIDTH * i }
+    {
+        (self.from as usize) + WIDTH * (i as usize)
     }
-    let a = (ws[at] == key)
-        | (ws[at + stride] == key)
-        | (ws[at + stride * 2] == key)
-        | (ws[at + stride * 3] == key);
-    let b = (ws[at + stride * 4] == key)
-        | (ws[at + stride * 5] == key)
-        | (ws[at + stride * 6] == key)
-        | (ws[at + stride * 7] == key);
-    !(a | b)
-}
 
-// How many of `n` words, `stride` apart, are passed, eight at a time, with no key among them.
-fn skip(ws: &[u32], from: usize, stride: usize, n: u16, key: u32) -> u16
-    requires { (from < 2 ^ 20) × (stride < 8) }
-    ensures { (result ≤ n) × Without ws.now from stride key result }
-{
-    let mut at = from;
-    let mut i: u16 = 0;
-    while n - i >= 8 {
-        if !none_is(ws, at, stride, key) {
-            return i;
+    // Whether an entry has the key of the one given.
+    fn has_key(&self, ws: &[u32], i: u16, words: &[u32; WIDTH]) -> bool
+        ensures { result ≡ hit ws.now self.now.from WIDTH (take KEY words.now) i }
+    {
+        let at = self.place(i);
+        for j in 0..KEY {
+            if word(ws, at + j) != words[j] {
+                return false;
+            }
         }
-        at += stride * 8;
-        i += 8;
+        true
     }
-    i
-}
 
-// The number of the first of `n` entries of one word that is `a`, or `n`.
-fn find_word(ws: &[u32], from: u16, n: u16, a: u32) -> u16
-    ensures { result ≡ seek (word_hit ws.now from a) n 0 }
-{
-    let mut i = skip(ws, from as usize, 1, n, a);
-    while i < n {
-        if word_hit(ws, from, a, i) {
-            return i;
+    // Whether eight entries are there, and one word of the key is in none of them.
+    fn none_has(&self, ws: &[u32], i: u16, words: &[u32; WIDTH]) -> bool
+        ensures { result ≡ true → NoneHas (hit ws.now self.now.from WIDTH (take KEY words.now)) i (i + 8) }
+    {
+        let at = self.place(i);
+        for j in 0..KEY {
+            if none_is::<WIDTH>(ws, at + j, words[j]) {
+                return true;
+            }
         }
-        i += 1;
+        false
     }
-    i
-}
 
-// The same for entries of two words.
-fn find_pair(ws: &[u32], from: u16, n: u16, a: u32, b: u32) -> u16
-    ensures { result ≡ seek (pair_hit ws.now from a b) n 0 }
-{
-    let k = skip(ws, from as usize, 2, n, a);
-    let mut i = k + skip(ws, (from as usize) + 2 * (k as usize) + 1, 2, n - k, b);
-    while i < n {
-        if pair_hit(ws, from, a, b, i) {
-            return i;
+    // How many of `n` entries are passed, eight at a time, with none of that key among them.
+    fn skip(&self, ws: &[u32], n: u16, words: &[u32; WIDTH]) -> u16
+        ensures { (result ≤ n) × NoneHas (hit ws.now self.now.from WIDTH (take KEY words.now)) 0 result }
+    {
+        for eight in 0..n / 8 {
+            if !self.none_has(ws, 8 * eight, words) {
+                return 8 * eight;
+            }
         }
-        i += 1;
+        8 * (n / 8)
     }
-    i
-}
 
-// The same for names: three words, of which the hash is the key.
-fn find_name(ws: &[u32], from: u16, n: u16, a: u32, b: u32) -> u16
-    ensures { result ≡ seek (name_hit ws.now from a b) n 0 }
-{
-    let mut i = skip(ws, (from as usize) + 1, 3, n, b);
-    while i < n {
-        if name_hit(ws, from, a, b, i) {
-            return i;
+    // The number of the first of `n` entries that has the key of the one given, or `n`, as `seek` has it: that of an entry appended.
+    fn find(&self, ws: &[u32], n: u16, words: &[u32; WIDTH]) -> u16
+        ensures { result ≡ seek (hit ws.now self.now.from WIDTH (take KEY words.now)) n 0 }
+    {
+        for i in self.skip(ws, n, words)..n {
+            if self.has_key(ws, i, words) {
+                return i;
+            }
         }
-        i += 1;
+        n
     }
-    i
-}
 
-// The same for members: six words, of which the two hashes are the key.
-fn find_member(ws: &[u32], from: u16, n: u16, a: u32, b: u32, c: u32, d: u32) -> u16
-    ensures { result ≡ seek (member_hit ws.now from a b c d) n 0 }
-{
-    let mut i: u16 = 0;
-    while i < n {
-        if member_hit(ws, from, a, b, c, d, i) {
-            return i;
+    // An entry after the `n` there are, if there is room: how many there are now.
+    #[tactic(auto, unfolding(crate::specs::Regions::appended_count, crate::specs::Regions::appended_words))]
+    pub(crate) fn append(&self, ws: &mut [u32], n: u16, words: &[u32; WIDTH]) -> u16
+        ensures { Appends n self.now.room ws.old (self.now.from + WIDTH * n) words.now ws.new result }
+    {
+        if n >= self.room {
+            return n;
         }
-        i += 1;
+        let at = self.place(n);
+        for j in 0..WIDTH {
+            put_word(ws, at + j, words[j]);
+        }
+        n + 1
     }
-    i
-}
 
-fn put_three(ws: &mut [u32], at: usize, a: u32, b: u32, c: u32)
-    requires { at < 2 ^ 21 }
-    ensures { ws.new ≡ sets ws.old at (a ∷ b ∷ c ∷ []) }
-{
-    put_pair(ws, at, a, b);
-    put_word(ws, at + 2, c);
-}
-
-fn put_four(ws: &mut [u32], at: usize, a: u32, b: u32, c: u32, d: u32)
-    requires { at < 2 ^ 21 }
-    ensures { ws.new ≡ sets ws.old at (a ∷ b ∷ c ∷ d ∷ []) }
-{
-    put_pair(ws, at, a, b);
-    put_pair(ws, at + 2, c, d);
-}
-
-fn put_six(ws: &mut [u32], at: usize, a: u32, b: u32, c: u32, d: u32, e: u32, f: u32)
-    requires { at < 2 ^ 20 }
-    ensures { ws.new ≡ sets ws.old at (a ∷ b ∷ c ∷ d ∷ e ∷ f ∷ []) }
-{
-    put_four(ws, at, a, b, c, d);
-    put_pair(ws, at + 4, e, f);
-}
-
-// An entry of one word after the `n` there are, if there is room: how many there are now.
-fn append_word(ws: &mut [u32], from: u16, room: u16, n: u16, a: u32) -> u16
-    ensures { Appends n room ws.old (from + n) (a ∷ []) ws.new result }
-{
-    if n >= room {
-        return n;
-    }
-    put_word(ws, (from as usize) + (n as usize), a);
-    n + 1
-}
-
-// The same for entries of two words.
-pub(crate) fn append_pair(ws: &mut [u32], from: u16, room: u16, n: u16, a: u32, b: u32) -> u16
-    ensures { Appends n room ws.old (from + 2 * n) (a ∷ b ∷ []) ws.new result }
-{
-    if n >= room {
-        return n;
-    }
-    put_pair(ws, (from as usize) + 2 * (n as usize), a, b);
-    n + 1
-}
-
-fn append_three(ws: &mut [u32], from: u16, room: u16, n: u16, a: u32, b: u32, c: u32) -> u16
-    ensures { Appends n room ws.old (from + 3 * n) (a ∷ b ∷ c ∷ []) ws.new result }
-{
-    if n >= room {
-        return n;
-    }
-    put_three(ws, (from as usize) + 3 * (n as usize), a, b, c);
-    n + 1
-}
-
-// The same for entries of four words.
-pub(crate) fn append_four(
-    ws: &mut [u32],
-    from: u16,
-    room: u16,
-    n: u16,
-    a: u32,
-    b: u32,
-    c: u32,
-    d: u32,
-) -> u16
-    ensures { Appends n room ws.old (from + 4 * n) (a ∷ b ∷ c ∷ d ∷ []) ws.new result }
-{
-    if n >= room {
-        return n;
-    }
-    put_four(ws, (from as usize) + 4 * (n as usize), a, b, c, d);
-    n + 1
-}
-
-fn append_six(
-    ws: &mut [u32],
-    from: u16,
-    room: u16,
-    n: u16,
-    a: u32,
-    b: u32,
-    c: u32,
-    d: u32,
-    e: u32,
-    f: u32,
-) -> u16
-    ensures { Appends n room ws.old (from + 6 * n) (a ∷ b ∷ c ∷ d ∷ e ∷ f ∷ []) ws.new result }
-{
-    if n >= room {
-        return n;
-    }
-    put_six(ws, (from as usize) + 6 * (n as usize), a, b, c, d, e, f);
-    n + 1
-}
-
-// The entry of one word that is `a`: found, or appended if there is room.
-pub(crate) fn intern_word(ws: &mut [u32], from: u16, room: u16, n: u16, a: u32) -> Interned
-    ensures { Interns (word_hit ws.old from a) n room ws.old (from + n) (a ∷ []) ws.new result }
-{
-    let index = find_word(ws, from, n, a);
-    if index < n {
-        return Interned {
-            index: index,
-            count: n,
-        };
-    }
-    let count = append_word(ws, from, room, n, a);
-    Interned {
-        index: index,
-        count: count,
-    }
-}
-
-// The same for entries of two words.
-pub(crate) fn intern_pair(ws: &mut [u32], from: u16, room: u16, n: u16, a: u32, b: u32) -> Interned
-    ensures { Interns (pair_hit ws.old from a b) n room ws.old (from + 2 * n) (a ∷ b ∷ []) ws.new result }
-{
-    let index = find_pair(ws, from, n, a, b);
-    if index < n {
-        return Interned {
-            index: index,
-            count: n,
-        };
-    }
-    let count = append_pair(ws, from, room, n, a, b);
-    Interned {
-        index: index,
-        count: count,
-    }
-}
-
-// The same for names: the hash is the key, and the first place of the text stays.
-pub(crate) fn intern_name(
-    ws: &mut [u32],
-    from: u16,
-    room: u16,
-    n: u16,
-    a: u32,
-    b: u32,
-    place: u32,
-) -> Interned
-    ensures { Interns (name_hit ws.old from a b) n room ws.old (from + 3 * n) (a ∷ b ∷ place ∷ []) ws.new result }
-{
-    let index = find_name(ws, from, n, a, b);
-    if index < n {
-        return Interned {
-            index: index,
-            count: n,
-        };
-    }
-    let count = append_three(ws, from, room, n, a, b, place);
-    Interned {
-        index: index,
-        count: count,
-    }
-}
-
-// The same for members: the two hashes are the key, and the first places of the texts stay.
-pub(crate) fn intern_member(
-    ws: &mut [u32],
-    from: u16,
-    room: u16,
-    n: u16,
-    a: u32,
-    b: u32,
-    c: u32,
-    d: u32,
-    own: u32,
-    last: u32,
-) -> Interned
-    ensures { Interns (member_hit ws.old from a b c d) n room ws.old (from + 6 * n) (a ∷ b ∷ c ∷ d ∷ own ∷ last ∷ []) ws.new result }
-{
-    let index = find_member(ws, from, n, a, b, c, d);
-    if index < n {
-        return Interned {
-            index: index,
-            count: n,
-        };
-    }
-    let count = append_six(ws, from, room, n, a, b, c, d, own, last);
-    Interned {
-        index: index,
-        count: count,
+    // The first entry with that key: found, or appended if there is room. The hint has the callers for one word take it in: without
+    // it `expr` takes in `leaf`, and equal strings are slower.
+    #[inline]
+    #[tactic(auto, unfolding(crate::specs::Regions::interned, crate::specs::Regions::interned_count, crate::specs::Regions::interned_words))]
+    pub(crate) fn intern(&self, ws: &mut [u32], n: u16, words: &[u32; WIDTH]) -> Interned
+        ensures { Interns (hit ws.old self.now.from WIDTH (take KEY words.now)) n self.now.room ws.old (self.now.from + WIDTH * n) words.now ws.new result }
+    {
+        let index = self.find(ws, n, words);
+        if index < n {
+            return Interned { index, count: n };
+        }
+        let count = self.append(ws, n, words);
+        Interned { index, count }
     }
 }

@@ -7,4 +7,4 @@ use Rattle.lowering.proofs.assign.add_path.Goals as goal
 
 pub returns : goal.returns
 unfolding path_added
-returns c = same_held (ap (λ (n : ℕ). set_paths n c.args.st) c.append_pair-n.ensures.0) c.append_pair-n.ensures.1
+returns c = rw (← c.high.ensures, ← c.low.ensures) (same_held (ap (λ (n : ℕ). set_paths n c.args.st) c.append-n.ensures.0) c.append-n.ensures.1)

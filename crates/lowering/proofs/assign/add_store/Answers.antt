@@ -11,4 +11,4 @@ returns c =
     let a = c.args in
     let e = c.root_kind.ensures in
     let f = c.root_index.ensures in
-    same_entry _ (ap (λ (n : ℕ). set_stores n a.st) c.append_four-n.ensures.0) (c.append_four-n.ensures.1 ∙ (λ j. (store_added (e j) (f j) a.first a.count (a.st, a.ws.now)).1))
+    same_entry _ (ap (λ (n : ℕ). set_stores n a.st) c.append-n.ensures.0) (c.append-n.ensures.1 ∙ (λ j. (store_added (e j) (f j) a.first a.count (a.st, a.ws.now)).1))

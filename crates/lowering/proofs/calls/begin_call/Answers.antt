@@ -9,4 +9,4 @@ pub returns : goal.returns
 unfolding call_begun
 returns c =
     let a = c.args in
-    same_entry _ (ap (λ (n : ℕ). set_arguments n (set_calls c.append_four-n.result a.st)) c.sum.ensures ∙ ap (λ (n : ℕ). set_arguments (min (a.st.arguments + a.count) 65535) (set_calls n a.st)) c.append_four-n.ensures.0) c.append_four-n.ensures.1
+    same_entry _ (ap (λ (n : ℕ). set_arguments n (set_calls c.append-n.result a.st)) c.sum.ensures ∙ ap (λ (n : ℕ). set_arguments (min (a.st.arguments + a.count) 65535) (set_calls n a.st)) c.append-n.ensures.0) c.append-n.ensures.1

@@ -5,4 +5,4 @@ use Rattle.lowering.proofs.interning.name.Goals as goal
 
 pub returns : goal.returns
 unfolding name
-returns c = rw (← c.high.ensures, ← c.low.ensures, ← c.text_place.ensures) (entered (λ n. set_names n c.args.st) _ _ _ c.intern_name-i.ensures.0 c.intern_name-i.ensures.1)
+returns c = rw (← c.high.ensures, ← c.low.ensures, ← c.text_place.ensures) (entered (λ n. set_names n c.args.st) _ _ _ c.intern-i.ensures.0 c.intern-i.ensures.1)

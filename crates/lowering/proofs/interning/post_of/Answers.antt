@@ -16,5 +16,5 @@ returns-then-is_identity c =
 pub returns : goal.returns
 unfolding post
 returns c =
-    ◌∙◌ {A = Found} (entered_as after (λ n. set_posts n c.args.st) _ _ _ c.intern_pair-i.ensures.0 c.one_more.ensures c.intern_pair-i.ensures.1)
+    ◌∙◌ {A = Found} (entered_as after (λ n. set_posts n c.args.st) _ _ _ c.intern-i.ensures.0 c.one_more.ensures c.intern-i.ensures.1)
     (sym (chosen_no {A = Found} _ _ _ (tested c.args.p (patterns c.args.bits) (omega arith) (omega arith) c.requires c.is_identity.ensures ∙ c.if-is_identity.false)))
