@@ -46,6 +46,7 @@ fn bytes_at<const N: usize>(s: &[u8], p: usize, k: u16) -> [u8; N]
 }
 
 // The number of two bytes from `p + k` on.
+#[tactic(auto, unfolding(crate::specs::Bytes::be16))]
 pub fn get_u16(s: &[u8], p: usize, k: u16) -> u16
     ensures { result ≡ be16 s.now p k }
 {
@@ -53,6 +54,7 @@ pub fn get_u16(s: &[u8], p: usize, k: u16) -> u16
 }
 
 // The number of four bytes from `p + k` on.
+#[tactic(auto, unfolding(crate::specs::Bytes::be32))]
 pub fn get_u32(s: &[u8], p: usize, k: u16) -> u32
     ensures { result ≡ be32 s.now p k }
 {
@@ -60,6 +62,7 @@ pub fn get_u32(s: &[u8], p: usize, k: u16) -> u32
 }
 
 // The number of eight bytes from `p + k` on.
+#[tactic(auto, unfolding(crate::specs::Bytes::be64, crate::specs::Bytes::be32))]
 pub fn get_u64(s: &[u8], p: usize, k: u16) -> u64
     ensures { result ≡ be64 s.now p k }
 {
