@@ -1,7 +1,7 @@
 // Big-endian numbers written into bytes. Past the end nothing is written.
 #![tactic(auto)]
 
-ghost use Rattle.std.specs.Prelude.{◌≡◌, [], ◌/◌, ◌%◌, ◌^◌, ◌<◌, ◌≤◌};
+ghost use Rattle.std.specs.Prelude.{◌≡◌, [], ◌/◌, ◌%◌, ◌^◌, ◌<◌, ◌≤◌, length};
 ghost use Rattle.std.proofs.lemmas.List.Edits.{sets};
 ghost use Rattle.wire.specs.Bytes.{be};
 
@@ -15,15 +15,28 @@ pub fn put_u8(out: &mut [u8], at: usize, n: u8)
     }
 }
 
-// The bytes from `at` on, as far as there is place.
-#[tactic(auto, using(crate::proofs::Runs::sets_more, wire::proofs::Stores::sets_out))]
+// The bytes from `at` on, each if it has a place.
+#[tactic(auto, using(crate::proofs::Runs::sets_more))]
+fn put_each<const N: usize>(out: &mut [u8], at: usize, bytes: [u8; N])
+    requires { (N ≤ 8) × (at < length out.old) }
+    ensures { out.new ≡ sets out.old at bytes.entry }
+{
+    for i in 0..N {
+        put_u8(out, at + i, bytes[i]);
+    }
+}
+
+// The same. The compiler makes one store of bytes that all have a place.
+#[tactic(auto, using(crate::proofs::Runs::sets_whole, wire::proofs::Stores::sets_out))]
 fn put_bytes<const N: usize>(out: &mut [u8], at: usize, bytes: [u8; N])
     requires { N ≤ 8 }
     ensures { out.new ≡ sets out.old at bytes.entry }
 {
     if at < out.len() {
-        for i in 0..N {
-            put_u8(out, at + i, bytes[i]);
+        if N <= out.len() - at {
+            out[at..at + N].copy_from_slice(&bytes);
+        } else {
+            put_each(out, at, bytes);
         }
     }
 }
