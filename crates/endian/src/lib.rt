@@ -5,7 +5,7 @@ ghost use Rattle.std.specs.Prelude.{◌≡◌, [], ◌/◌, ◌%◌, ◌^◌, �
 ghost use Rattle.std.proofs.lemmas.List.Edits.{sets};
 ghost use Rattle.wire.specs.Bytes.{be};
 
-// The byte at `at`, if there is such a place.
+// The byte at `at`, if there is such a place. A test and a store: of a slice's `get_mut` the library says how long the slice stays, and no element.
 #[tactic(auto, using(wire::proofs::Numbers::be_one, wire::proofs::Stores::sets_out))]
 pub fn put_u8(out: &mut [u8], at: usize, n: u8)
     ensures { out.new ≡ sets out.old at (be 1 n []) }
@@ -15,7 +15,7 @@ pub fn put_u8(out: &mut [u8], at: usize, n: u8)
     }
 }
 
-// The bytes from `at` on, each if it has a place.
+// The bytes from `at` on, each if it has a place. An index: what `iter_mut` leaves in a slice the library does not say.
 #[tactic(auto, using(crate::proofs::Runs::sets_more))]
 fn put_each<const N: usize>(out: &mut [u8], at: usize, bytes: [u8; N])
     requires { (N ≤ 8) × (at < length out.old) }
@@ -41,7 +41,7 @@ fn put_bytes<const N: usize>(out: &mut [u8], at: usize, bytes: [u8; N])
     }
 }
 
-// The byte of `n` at a shift. Nothing is divided.
+// The byte of `n` at a shift. Nothing is divided, which is a rule of the project: `to_be_bytes` is written as quotients.
 fn byte(n: u32, shift: u32) -> u8
     requires { shift < 32 }
     ensures { result ≡ n / 2 ^ shift % 256 }

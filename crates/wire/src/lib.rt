@@ -22,7 +22,7 @@ fn chunk_at<const N: usize>(s: &[u8], p: usize, k: u16) -> Option<&[u8; N]>
     s.get(p..)?.get(k as usize..)?.first_chunk()
 }
 
-// The N bytes from `p + k` on, each looked for by itself.
+// The N bytes from `p + k` on, each by itself. A loop: `array::from_fn` ensures a step of its closure after another, which would take an induction.
 fn padded_at<const N: usize>(s: &[u8], p: usize, k: u16) -> [u8; N]
     requires { N ≤ 8 }
     ensures { AreAt s.now p k N result }
@@ -34,7 +34,7 @@ fn padded_at<const N: usize>(s: &[u8], p: usize, k: u16) -> [u8; N]
     bytes
 }
 
-// The same. The compiler makes one load of a whole chunk, and keeps bytes in a register only if they are padded in a function of their own.
+// The same. The compiler makes one load of a whole chunk; padded in here, and not in a function of its own, the bytes would go through memory.
 fn bytes_at<const N: usize>(s: &[u8], p: usize, k: u16) -> [u8; N]
     requires { N ≤ 8 }
     ensures { AreAt s.now p k N result }
