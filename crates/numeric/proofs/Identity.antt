@@ -13,13 +13,9 @@ use lib.Ieee.Fits.{down_pos}
 use lib.Ieee.Exact.{HasValue}
 use lib.Ieee.Back.{whole_unique}
 use borrow.Author.Tests.{eqb-true, eq-eqb}
+use Rattle.std.proofs.lemmas.Bool.{and_parts, or_cases}
 use Rattle.numeric.specs.Post.{Post, is_identity, scaled, fold}
 use Rattle.numeric.specs.PostOp.{post_of, identity_op, scaled_op, fold_op}
-use Rattle.numeric.proofs.Nan.{never}
-
-both : (a b : Bool) → (a && b) ≡ true → (a ≡ true) × (b ≡ true)
-both true b e = (refl, e)
-both false b e = absurd (never (sym e))
 
 -- two tests that each pass where the other does
 same_test : (a b : Bool) → (a ≡ true → b ≡ true) → (b ≡ true → a ≡ true) → a ≡ b
@@ -35,19 +31,19 @@ plus true a d h e t = let z : a ≡ 0 = eqb-true a 0 t in absurd (omega arith)
 
 eq_one_value : (x : Float) → eq x (fin false 1 (pos 0)) ≡ true → HasValue x false 1 1
 unfolding eq
-eq_one_value nan e = never (sym e)
-eq_one_value (inf s) e = never (sym e)
+eq_one_value nan e = cc
+eq_one_value (inf s) e = cc
 eq_one_value (fin s m k) e =
-    let p = both (eqb (m * up k * 1) (1 * down k)) (beq s false || eqb (m * up k * 1) 0) e in
+    let p = and_parts (eqb (m * up k * 1) (1 * down k)) (beq s false || eqb (m * up k * 1) 0) e in
     let v : m * up k * 1 ≡ 1 * down k = eqb-true (m * up k * 1) (1 * down k) p.0 in
     (plus s (m * up k * 1) (1 * down k) (subst (λ (n : ℕ). 0 < n) (sym (one-mul (down k))) (down_pos k)) v p.1, v)
 
 eq_zero_value : (x : Float) → eq x (fin false 0 (pos 0)) ≡ true → HasValue x false 0 1 ⊎ HasValue x true 0 1
 unfolding eq
-eq_zero_value nan e = absurd (never (sym e))
-eq_zero_value (inf s) e = absurd (never (sym e))
-eq_zero_value (fin false m k) e = inl (refl, eqb-true (m * up k * 1) (0 * down k) (both (eqb (m * up k * 1) (0 * down k)) (beq false false || eqb (m * up k * 1) 0) e).0)
-eq_zero_value (fin true m k) e = inr (refl, eqb-true (m * up k * 1) (0 * down k) (both (eqb (m * up k * 1) (0 * down k)) (beq true false || eqb (m * up k * 1) 0) e).0)
+eq_zero_value nan e = cc
+eq_zero_value (inf s) e = cc
+eq_zero_value (fin false m k) e = inl (refl, eqb-true (m * up k * 1) (0 * down k) (and_parts (eqb (m * up k * 1) (0 * down k)) (beq false false || eqb (m * up k * 1) 0) e).0)
+eq_zero_value (fin true m k) e = inr (refl, eqb-true (m * up k * 1) (0 * down k) (and_parts (eqb (m * up k * 1) (0 * down k)) (beq true false || eqb (m * up k * 1) 0) e).0)
 
 -- ---- a pattern whose float has such a value is the number's own pattern
 back : (n : ℕ) (v : Float) → n < 4294967296 → of_bits binary32 n ≡ v → T (not (is_nan v)) → to_bits binary32 v ≡ n
@@ -73,13 +69,9 @@ one_test n h =
     (λ e. eq-eqb n 0x3f800000 (one_bits n h e))
     (λ e. ap (λ (m : ℕ). eq (of_bits binary32 m) (fin false 1 (pos 0))) (eqb-true n 0x3f800000 e))
 
-either : (a b : Bool) → (a || b) ≡ true → (a ≡ true) ⊎ (b ≡ true)
-either true b e = inl refl
-either false b e = inr e
-
 pub zero_test : (n : ℕ) → n < 4294967296 → eq (of_bits binary32 n) (of_bits binary32 0) ≡ (eqb n 0 || eqb n 0x80000000)
 unfolding eq of_bits
-zero_test n h = same_test (eq (of_bits binary32 n) (fin false 0 (pos 0))) (eqb n 0 || eqb n 0x80000000) (λ e. to (zero_bits n h e)) (λ e. from (either (eqb n 0) (eqb n 0x80000000) e))
+zero_test n h = same_test (eq (of_bits binary32 n) (fin false 0 (pos 0))) (eqb n 0 || eqb n 0x80000000) (λ e. to (zero_bits n h e)) (λ e. from (or_cases (eqb n 0) (eqb n 0x80000000) e))
   where
     to : (n ≡ 0) ⊎ (n ≡ 0x80000000) → (eqb n 0 || eqb n 0x80000000) ≡ true
     to (inl z) = ap (λ (m : ℕ). eqb m 0 || eqb m 0x80000000) z

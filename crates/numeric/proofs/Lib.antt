@@ -1,4 +1,3 @@
-pub mod Nan
 pub mod Identity
 pub mod Vectors
 pub mod PostFits

@@ -4,28 +4,19 @@
 
 ghost use Rattle.std.specs.Prelude.{◌≡◌};
 ghost use Rattle.std.specs.Float.{binary32};
-ghost use Rattle.std.specs.Float.Ieee.{of_bits, to_bits};
+ghost use Rattle.std.specs.Float.Ieee.{to_bits};
 ghost use Rattle.numeric.specs.PostOp.{post, post_of, identity_op, fold_op};
 
-// The float of a bit pattern. Every NaN's pattern gives a NaN, of no particular payload.
-fn float_of(bits: u32) -> f32
-    ensures { result ≡ of_bits binary32 bits }
-{
-    if (bits & 0x7fff_ffff) > 0x7f80_0000 {
-        0.0 / 0.0
-    } else {
-        f32::from_bits(bits)
-    }
-}
+use std::num::{f32_from_bits_with_nan, f32_to_bits_with_nan};
 
 // The bit pattern of a float; a NaN's is 7FC00000.
 pub fn bits_of(x: f32) -> u32
     ensures { result ≡ to_bits binary32 x }
 {
-    if x != x { 0x7fc0_0000 } else { f32::to_bits(x) }
+    f32_to_bits_with_nan(x)
 }
 
-// A post by its bit patterns.
+// A post by its bit patterns. One type over both kinds of number would be no plainer: each method is one kind's alone.
 #[derive(Clone, Copy, Drop)]
 pub struct PostBits {
     pub scale: u32,
@@ -33,7 +24,7 @@ pub struct PostBits {
 }
 
 // A post by its numbers.
-#[derive(Clone, Copy, Drop)]
+#[derive(Clone, Copy, PartialEq, Drop)]
 pub struct PostOp {
     pub scale: f32,
     pub offset: f32,
@@ -49,31 +40,28 @@ impl PostOp {
         ensures { result ≡ post_of (post scale offset) }
     {
         PostOp {
-            scale: float_of(scale),
-            offset: float_of(offset),
+            scale: f32_from_bits_with_nan(scale),
+            offset: f32_from_bits_with_nan(offset),
         }
     }
 
     // Scale 1.0 with offset 0.0 or -0.0.
+    #[tactic(auto, unfolding(crate::specs::PostOp::identity_op))]
     pub fn is_identity(self) -> bool
         ensures { result ≡ identity_op self }
     {
-        let one = PostOp::IDENTITY;
-        if self.scale == one.scale {
-            self.offset == one.offset
-        } else {
-            false
-        }
+        self == PostOp::IDENTITY
     }
 
     // The constant `raw` with the post folded in, both by their bits.
+    #[tactic(auto, unfolding(crate::specs::PostOp::fold_op, crate::specs::PostOp::scaled_op))]
     pub fn fold(self, raw: u32) -> u32
         ensures { result ≡ fold_op self raw }
     {
         if self.is_identity() {
             return raw;
         }
-        let x = float_of(raw);
+        let x = f32_from_bits_with_nan(raw);
         bits_of(x * self.scale + self.offset)
     }
 }

@@ -2,7 +2,7 @@
 use mathlib.Core.Path.{◌≡◌, refl, ap, ◌∙◌}
 use mathlib.Core.List.{List, [], ◌∷◌}
 use Prim.Native.Nat.{ℕ, zero, suc, ◌+◌, ◌*◌, ◌^◌, ◌/◌, ◌%◌, ◌<◌}
-use native.Mathlib.Nat.{div-add-mod', mod-lt, pow-suc, pow-zero}
+use native.Mathlib.Nat.{div-add-mod', mod-lt, one-le-pow, pow-suc, pow-zero}
 use native.Mathlib.Omega.{arith}
 use lib.ListN.{length}
 use Rattle.wire.specs.Bytes.{be}
@@ -13,8 +13,7 @@ abbrev pub Back : {A : Type 0} → (A → List ℕ → List ℕ) → (List ℕ �
 Back put get a = (r : List ℕ) → get (put a r) ≡ got a r
 
 pub pow_pos : (k : ℕ) → 0 < 256 ^ k
-pow_pos zero = rw pow-zero (omega arith)
-pow_pos (suc k) = let h = pow_pos k in rw pow-suc (omega arith)
+pow_pos k = one-le-pow k 256 (omega arith)
 
 -- one law for every width
 pub number_back : (k a v : ℕ) → v < 256 ^ k → (r : List ℕ) → number k a (be k v r) ≡ got (a * 256 ^ k + v) r

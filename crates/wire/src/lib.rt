@@ -1,86 +1,70 @@
 // Big-endian numbers read in bytes. Past the end a byte reads 0.
 #![tactic(auto)]
 
-ghost use Rattle.std.specs.Prelude.{◌≡◌, ◌+◌, ◌*◌, ◌≤◌, length};
+ghost use Rattle.std.specs.Prelude.{◌≡◌, ◌≤◌, IfSome};
 ghost use Rattle.wire.specs.Bytes.{be8, be16, be32, be64};
+ghost use Rattle.wire.specs.Reads.{AreAt};
 
 // The byte at `p + k`.
 pub fn get_u8(s: &[u8], p: usize, k: u32) -> u8
     ensures { result ≡ be8 s.now p k }
 {
-    if p < s.len() {
-        let i = p + (k as usize);
-        if i < s.len() {
-            return s[i];
-        }
-        return 0;
+    s.get(p..)
+        .and_then(|rest| rest.get(k as usize))
+        .copied()
+        .unwrap_or(0)
+}
+
+// The N bytes from `p + k` on, if all are there.
+fn chunk_at<const N: usize>(s: &[u8], p: usize, k: u16) -> Option<&[u8; N]>
+    ensures { IfSome result (λ bytes. AreAt s.now p k N bytes.now) }
+{
+    s.get(p..)?.get(k as usize..)?.first_chunk()
+}
+
+// The N bytes from `p + k` on, each by itself. A loop: `array::from_fn` ensures a step of its closure after another, which would take an induction.
+fn padded_at<const N: usize>(s: &[u8], p: usize, k: u16) -> [u8; N]
+    requires { N ≤ 8 }
+    ensures { AreAt s.now p k N result }
+{
+    let mut bytes = [0; N];
+    for i in 0..N {
+        bytes[i] = get_u8(s, p, (k as u32) + (i as u32));
     }
-    0
+    bytes
 }
 
-fn two(a: u8, b: u8) -> u16
-    ensures { result ≡ a * 256 + b }
+// The same. The compiler makes one load of a whole chunk; padded in here, and not in a function of its own, the bytes would go through memory.
+fn bytes_at<const N: usize>(s: &[u8], p: usize, k: u16) -> [u8; N]
+    requires { N ≤ 8 }
+    ensures { AreAt s.now p k N result }
 {
-    (a as u16) * 256 + (b as u16)
-}
-
-fn four(a: u8, b: u8, c: u8, d: u8) -> u32
-    ensures { result ≡ a * 16777216 + b * 65536 + c * 256 + d }
-{
-    (a as u32) * 16777216 + (b as u32) * 65536 + (c as u32) * 256 + (d as u32)
-}
-
-fn joined(high: u32, low: u32) -> u64
-    ensures { result ≡ high * 4294967296 + low }
-{
-    (high as u64) * 4294967296 + (low as u64)
+    match chunk_at(s, p, k) {
+        Some(bytes) => *bytes,
+        None => padded_at(s, p, k),
+    }
 }
 
 // The number of two bytes from `p + k` on.
+#[tactic(auto, unfolding(crate::specs::Bytes::be16))]
 pub fn get_u16(s: &[u8], p: usize, k: u16) -> u16
     ensures { result ≡ be16 s.now p k }
 {
-    let i = k as u32;
-    two(get_u8(s, p, i), get_u8(s, p, i + 1))
-}
-
-// The same, where all four bytes are there: the compiler makes one load of them.
-fn four_at(s: &[u8], p: usize, k: u32) -> u32
-    requires { p + (k + 4) ≤ length s.now }
-    ensures { result ≡ be32 s.now p k }
-{
-    let i = p + (k as usize);
-    four(s[i], s[i + 1], s[i + 2], s[i + 3])
-}
-
-fn word(s: &[u8], p: usize, k: u32) -> u32
-    requires { k ≤ 65539 }
-    ensures { result ≡ be32 s.now p k }
-{
-    if p < s.len() {
-        if (k as usize) + 4 <= s.len() - p {
-            return four_at(s, p, k);
-        }
-    }
-    four(
-        get_u8(s, p, k),
-        get_u8(s, p, k + 1),
-        get_u8(s, p, k + 2),
-        get_u8(s, p, k + 3),
-    )
+    u16::from_be_bytes(bytes_at(s, p, k))
 }
 
 // The number of four bytes from `p + k` on.
+#[tactic(auto, unfolding(crate::specs::Bytes::be32))]
 pub fn get_u32(s: &[u8], p: usize, k: u16) -> u32
     ensures { result ≡ be32 s.now p k }
 {
-    word(s, p, k as u32)
+    u32::from_be_bytes(bytes_at(s, p, k))
 }
 
 // The number of eight bytes from `p + k` on.
+#[tactic(auto, unfolding(crate::specs::Bytes::be64, crate::specs::Bytes::be32))]
 pub fn get_u64(s: &[u8], p: usize, k: u16) -> u64
     ensures { result ≡ be64 s.now p k }
 {
-    let i = k as u32;
-    joined(word(s, p, i), word(s, p, i + 4))
+    u64::from_be_bytes(bytes_at(s, p, k))
 }

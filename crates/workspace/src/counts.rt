@@ -5,14 +5,11 @@ ghost use Rattle.workspace.specs.Counts.{sum};
 pub fn sum(a: u16, b: u16) -> u16
     ensures { result ≡ sum a b }
 {
-    if b <= 65535 - a {
-        return a + b;
-    }
-    65535
+    a.saturating_add(b)
 }
 
 pub fn one_more(n: u16) -> u16
     ensures { result ≡ sum n 1 }
 {
-    sum(n, 1)
+    n.saturating_add(1)
 }

@@ -1,4 +1,5 @@
 // The regions of the lent workspace, one behind the other: the word at which each begins, the entries it has room for, and what an entry is.
+// Each is a constant of its own, since code, clauses and specs/Layout cite each by its name, and most use a place without its room.
 
 // The open code: instructions of 2 words.
 pub const OPEN: usize = 0;

@@ -6,9 +6,10 @@ ghost use Rattle.workspace.specs.Words.{plus, high, low};
 pub fn word(ws: &[u32], at: usize) -> u32
     ensures { result ≡ get_or ws.now at 0 }
 {
-    if at < ws.len() { ws[at] } else { 0 }
+    ws.get(at).copied().unwrap_or(0)
 }
 
+// A test and a store: of a slice's `get_mut` the library says how long the slice stays, and no element.
 pub fn put_word(ws: &mut [u32], at: usize, w: u32)
     ensures { ws.new ≡ set ws.old at w }
 {
@@ -17,7 +18,7 @@ pub fn put_word(ws: &mut [u32], at: usize, w: u32)
     }
 }
 
-// Two words, one behind the other.
+// Two words, one behind the other. The test keeps `at + 1` from wrapping; the compiler makes it one with the first word's.
 pub fn put_pair(ws: &mut [u32], at: usize, a: u32, b: u32)
     ensures { ws.new ≡ sets ws.old at (a ∷ b ∷ []) }
 {
@@ -31,18 +32,18 @@ pub fn put_pair(ws: &mut [u32], at: usize, a: u32, b: u32)
 pub fn plus(a: u32, b: u32) -> u32
     ensures { result ≡ plus a b }
 {
-    ((a as u64 + b as u64) % 4294967296) as u32
+    a.wrapping_add(b)
 }
 
 // The two words of a hash.
 pub fn high(h: u64) -> u32
     ensures { result ≡ high h }
 {
-    (h / 4294967296) as u32
+    (h >> 32) as u32
 }
 
 pub fn low(h: u64) -> u32
     ensures { result ≡ low h }
 {
-    (h % 4294967296) as u32
+    (h & 0xffff_ffff) as u32
 }
