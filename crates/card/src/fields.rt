@@ -1,8 +1,8 @@
 // Fields of the image: numbers behind one another, and runs of them. What lies past the end of the output is not written.
-ghost use Rattle.std.specs.Prelude.{◌≡◌, [], ◌+◌, ◌*◌, ◌^◌, ◌≤◌, ◌<◌};
+ghost use Rattle.std.specs.Prelude.{◌≡◌, List, [], ℕ, ◌+◌, ◌*◌, ◌^◌, ◌≤◌, ◌<◌};
 ghost use Rattle.wire.specs.Bytes.{be};
-ghost use Rattle.card.specs.Written.{Wrote, cat};
-ghost use Rattle.card.specs.Image.{word_entry, half_entry, byte_entry};
+ghost use Rattle.card.specs.Written.{Wrote, cat, Room};
+ghost use Rattle.card.specs.Image.{word_entry, byte_entry};
 
 use workspace::words::{plus, word};
 
@@ -31,62 +31,72 @@ pub(crate) fn put_word(out: &mut [u8], at: usize, n: u32) -> usize
     at + 4
 }
 
-// The `n` words from `from` on, `base` added to each.
-pub(crate) fn put_words(
-    ws: &[u32],
+// Entries of one kind: the bytes of each, and how many it has at most.
+pub(crate) trait Entries {
+    ghost bytes_of: { Self → ℕ → List ℕ };
+
+    ghost most: { ℕ };
+
+    // Entry `i` at `at`; the place behind it.
+    fn put(&self, i: usize, out: &mut [u8], at: usize) -> usize
+        requires { (i < 2 ^ 20) × Room at most }
+        ensures { Wrote out.old at (bytes_of self.now i) out.new result × (result ≤ at + most) };
+}
+
+// The first `n` entries, one behind the other.
+pub(crate) fn put_all<E: Entries>(entries: &E, n: usize, out: &mut [u8], at: usize) -> usize
+    requires { (n < 2 ^ 20) × Room at (E.most * n) }
+    ensures { Wrote out.old at (cat (E.bytes_of entries.now) n) out.new result × (result ≤ at + E.most * n) }
+{
+    let mut end = at;
+    for i in 0..n {
+        end = entries.put(i, out, end);
+    }
+    end
+}
+
+// The words from `from` on, `base` added to each.
+#[derive(Clone, Copy, Drop)]
+pub(crate) struct Words<'a> {
+    pub(crate) ws: &'a [u32],
+    pub(crate) from: usize,
+    pub(crate) base: u32,
+    ghost near: { from < 2 ^ 40 },
+}
+
+impl Entries for Words<'_> {
+    ghost bytes_of = { λ s. word_entry s.ws.now s.from s.base };
+
+    ghost most = { 4 };
+
+    fn put(&self, i: usize, out: &mut [u8], at: usize) -> usize {
+        let w = word(self.ws, self.from + i);
+        let v = plus(w, self.base);
+        put_word(out, at, v)
+    }
+}
+
+// The bytes of the tree image from `from` on.
+#[derive(Clone, Copy, Drop)]
+struct Bytes<'a> {
+    tree: &'a [u8],
     from: usize,
-    n: usize,
-    base: u32,
-    out: &mut [u8],
-    at: usize,
-) -> usize
-    requires { (from < 2 ^ 40) × (n < 2 ^ 20) × (at < 2 ^ 60) }
-    ensures { Wrote out.old at (cat (word_entry ws.now from base) n) out.new result × (result ≤ at + 4 * n) }
-{
-    let mut e = at;
-    let mut i: usize = 0;
-    while i < n {
-        let w = word(ws, from + i);
-        let v = plus(w, base);
-        e = put_word(out, e, v);
-        i += 1;
-    }
-    e
 }
 
-// The low halves of the `n` words from `from` on.
-pub(crate) fn put_halves(ws: &[u32], from: usize, n: usize, out: &mut [u8], at: usize) -> usize
-    requires { (from < 2 ^ 40) × (n < 2 ^ 20) × (at < 2 ^ 60) }
-    ensures { Wrote out.old at (cat (half_entry ws.now from) n) out.new result × (result ≤ at + 2 * n) }
-{
-    let mut e = at;
-    let mut i: usize = 0;
-    while i < n {
-        let w = word(ws, from + i);
-        e = put_half(out, e, (w % 65536) as u16);
-        i += 1;
+impl Entries for Bytes<'_> {
+    ghost bytes_of = { λ s. byte_entry s.tree.now s.from };
+
+    ghost most = { 1 };
+
+    fn put(&self, i: usize, out: &mut [u8], at: usize) -> usize {
+        let b = wire::get_u8(self.tree, self.from, i as u32);
+        put_byte(out, at, b)
     }
-    e
 }
 
-// The `n` bytes of the tree image from `from` on, byte by byte.
-fn put_each(tree: &[u8], from: usize, n: u32, out: &mut [u8], at: usize) -> usize
-    requires { at < 2 ^ 60 }
-    ensures { Wrote out.old at (cat (byte_entry tree.now from) n) out.new result × (result ≤ at + n) }
-{
-    let mut e = at;
-    let mut i: u32 = 0;
-    while i < n {
-        let b = wire::get_u8(tree, from, i);
-        e = put_byte(out, e, b);
-        i += 1;
-    }
-    e
-}
-
-// The same, in one run where they have their place.
-pub(crate) fn put_bytes(tree: &[u8], from: usize, n: u32, out: &mut [u8], at: usize) -> usize
-    requires { at < 2 ^ 60 }
+// The `n` bytes of the tree image from `from` on, in one run where they have their place.
+pub(crate) fn put_bytes(tree: &[u8], from: usize, n: u8, out: &mut [u8], at: usize) -> usize
+    requires { Room at n }
     ensures { Wrote out.old at (cat (byte_entry tree.now from) n) out.new result × (result ≤ at + n) }
 {
     let k = n as usize;
@@ -96,5 +106,5 @@ pub(crate) fn put_bytes(tree: &[u8], from: usize, n: u32, out: &mut [u8], at: us
             return at + k;
         }
     }
-    put_each(tree, from, n, out, at)
+    put_all(&Bytes { tree, from }, k, out, at)
 }
