@@ -1,32 +1,34 @@
 // The nine sections, each a count and its entries, and the closing fields.
 ghost use Rattle.std.specs.Prelude.{◌≡◌, [], ◌++◌, ◌+◌, ◌*◌, ◌^◌, ◌≤◌, ◌<◌, length};
+ghost use Rattle.std.proofs.lemmas.List.Edits.{sets};
 ghost use Rattle.wire.specs.Bytes.{be};
 ghost use Rattle.numeric.specs.Post.{identity};
 ghost use Rattle.numeric.specs.PostOp.{patterns};
-ghost use Rattle.card.specs.Written.{Wrote, Room, cat};
+ghost use Rattle.card.specs.Written.{Wrote, cat};
 ghost use Rattle.card.specs.Image.{code_section, posts_section, hashes_section, closing_bytes, body_of, image_of};
 ghost use Rattle.card.specs.Starts.{sums_of, closing_start, start_from_back};
 
 use crate::Sections;
 use crate::entries::{Calls, Instructions, Members, Names, Stores, Temps};
-use crate::fields::{Entries, Words, put_all, put_byte, put_half, put_word};
+use crate::fields::{Entries, Words, Writer};
 use crate::measure::Sums;
 use numeric::{PostBits, PostOp};
 use workspace::layout;
 
 // A section: the count of its entries, and the entries.
-fn put_section<E: Entries>(entries: &E, n: u16, out: &mut [u8], at: usize) -> usize
-    requires { Room at (4 + E.most * n) }
-    ensures { Wrote out.old at (be 4 n [] ++ cat (E.bytes_of entries.now) n) out.new result }
+fn put_section<E: Entries>(entries: &E, n: u16, out: &mut [u8], at: usize)
+    requires { at + (4 + E.most * n) < 2 ^ 60 }
+    ensures { out.new ≡ sets out.old at (be 4 n [] ++ cat (E.bytes_of entries.now) n) }
 {
-    let e = put_word(out, at, n as u32);
-    put_all(entries, n as usize, out, e)
+    let mut w = Writer { out, at };
+    w.word(n as u32);
+    w.all(entries, n as usize);
 }
 
 // The main code, then the argument code with the main code's length added to its targets.
-fn put_code(ws: &[u32], n: u16, m: u16, out: &mut [u8], at: usize) -> usize
+fn put_code(ws: &[u32], n: u16, m: u16, out: &mut [u8], at: usize)
     requires { at < 2 ^ 56 }
-    ensures { Wrote out.old at (code_section ws.now n m) out.new result }
+    ensures { out.new ≡ sets out.old at (code_section ws.now n m) }
 {
     let main = Instructions {
         ws,
@@ -38,9 +40,10 @@ fn put_code(ws: &[u32], n: u16, m: u16, out: &mut [u8], at: usize) -> usize
         from: layout::FINISHED,
         base: n as u32,
     };
-    let e = put_word(out, at, (n as u32) + m as u32);
-    let f = put_all(&main, n as usize, out, e);
-    put_all(&finished, m as usize, out, f)
+    let mut w = Writer { out, at };
+    w.word(n as u32 + m as u32);
+    w.all(&main, n as usize);
+    w.all(&finished, m as usize);
 }
 
 // Slot 0: the identity by its bit patterns.
@@ -54,9 +57,9 @@ fn identity_bits() -> PostBits
     }
 }
 
-fn put_posts(ws: &[u32], n: u16, out: &mut [u8], at: usize) -> usize
+fn put_posts(ws: &[u32], n: u16, out: &mut [u8], at: usize)
     requires { at < 2 ^ 56 }
-    ensures { Wrote out.old at (posts_section ws.now n) out.new result }
+    ensures { out.new ≡ sets out.old at (posts_section ws.now n) }
 {
     let plain = identity_bits();
     let further = Words {
@@ -64,34 +67,37 @@ fn put_posts(ws: &[u32], n: u16, out: &mut [u8], at: usize) -> usize
         from: layout::POSTS,
         base: 0,
     };
-    let e = put_word(out, at, (n as u32) + 1);
-    let f = put_word(out, e, plain.scale);
-    let g = put_word(out, f, plain.offset);
-    put_all(&further, 2 * n as usize, out, g)
+    let mut w = Writer { out, at };
+    w.word(n as u32 + 1);
+    w.word(plain.scale);
+    w.word(plain.offset);
+    w.all(&further, 2 * (n as usize));
 }
 
-fn put_hashes(ws: &[u32], n: u16, out: &mut [u8], at: usize) -> usize
+fn put_hashes(ws: &[u32], n: u16, out: &mut [u8], at: usize)
     requires { at < 2 ^ 56 }
-    ensures { Wrote out.old at (hashes_section ws.now n) out.new result }
+    ensures { out.new ≡ sets out.old at (hashes_section ws.now n) }
 {
     let hashes = Words {
         ws,
         from: layout::HASHES,
         base: 0,
     };
-    let e = put_word(out, at, n as u32);
-    put_all(&hashes, 2 * n as usize, out, e)
+    let mut w = Writer { out, at };
+    w.word(n as u32);
+    w.all(&hashes, 2 * (n as usize));
 }
 
-fn put_closing(c: Sections, out: &mut [u8], at: usize) -> usize
+fn put_closing(c: Sections, out: &mut [u8], at: usize)
     requires { at < 2 ^ 56 }
-    ensures { Wrote out.old at (closing_bytes c) out.new result }
+    ensures { out.new ≡ sets out.old at (closing_bytes c) }
 {
-    let e = put_half(out, at, c.stack);
-    let f = put_half(out, e, c.loops);
-    let g = put_half(out, f, c.handlers);
-    let h = put_half(out, g, c.flags);
-    put_byte(out, h, u8::from(c.float_loop))
+    let mut w = Writer { out, at };
+    w.half(c.stack);
+    w.half(c.loops);
+    w.half(c.handlers);
+    w.half(c.flags);
+    w.byte(u8::from(c.float_loop));
 }
 
 // All that stands behind the length, from the back: each section begins at the closing fields' place less the running sum that ends with it.

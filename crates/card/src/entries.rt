@@ -1,7 +1,7 @@
 // The sections' entries: what each kind writes for one index.
 ghost use Rattle.std.specs.Prelude.{◌≡◌, ◌+◌, ◌*◌, ◌^◌, ◌≤◌, ◌<◌};
 ghost use Rattle.workspace.specs.Layout.{TEMPS};
-ghost use Rattle.card.specs.Written.{Wrote, Room};
+ghost use Rattle.card.specs.Written.{Room, Puts};
 ghost use Rattle.card.specs.Image.{
   instruction_bytes,
   instruction_entry,
@@ -15,22 +15,22 @@ ghost use Rattle.card.specs.Image.{
   call_entry,
 };
 
-use crate::fields::{Entries, Words, put_all, put_byte, put_bytes, put_half, put_word};
+use crate::fields::{Entries, Words, Writer};
 use program::targets;
 use workspace::layout;
 use workspace::words::{plus, word};
 
 // Opcode, sub, A and B.
-fn put_instruction(w: u32, a: u32, base: u32, out: &mut [u8], at: usize) -> usize
-    requires { Room at 8 }
-    ensures { Wrote out.old at (instruction_bytes base w a) out.new result × (result ≤ at + 8) }
+fn put_instruction(w: u32, a: u32, base: u32, out: &mut Writer<'_>)
+    requires { Room out.old 8 }
+    ensures { Puts out.old out.new (instruction_bytes base w a) 8 }
 {
     let s = targets::shift((w / 16777216) as u8, base);
     let v = plus(a, s);
-    let e = put_byte(out, at, (w / 16777216) as u8);
-    let f = put_byte(out, e, (w / 65536 % 256) as u8);
-    let g = put_word(out, f, v);
-    put_half(out, g, (w % 65536) as u16)
+    out.byte((w / 16777216) as u8);
+    out.byte((w / 65536 % 256) as u8);
+    out.word(v);
+    out.half((w % 65536) as u16);
 }
 
 // The instructions from `from` on, their targets counted from `base`.
@@ -47,45 +47,45 @@ impl Entries for Instructions<'_> {
 
     ghost most = { 8 };
 
-    fn put(&self, i: usize, out: &mut [u8], at: usize) -> usize {
+    fn put(&self, i: usize, out: &mut Writer<'_>) {
         let w = word(self.ws, self.from + 2 * i);
         let a = word(self.ws, self.from + 2 * i + 1);
-        put_instruction(w, a, self.base, out, at)
+        put_instruction(w, a, self.base, out);
     }
 }
 
 // The text of the tree image whose length byte stands at `o`.
-fn put_text(tree: &[u8], o: u32, out: &mut [u8], at: usize) -> usize
-    requires { Room at 257 }
-    ensures { Wrote out.old at (text_bytes tree.now o) out.new result × (result ≤ at + 257) }
+fn put_text(tree: &[u8], o: u32, out: &mut Writer<'_>)
+    requires { Room out.old 257 }
+    ensures { Puts out.old out.new (text_bytes tree.now o) 257 }
 {
     let k = o as usize;
     let n = wire::get_u8(tree, k, 0);
-    let e = put_half(out, at, n as u16);
-    put_bytes(tree, k + 1, n, out, e)
+    out.half(n as u16);
+    out.bytes(tree, k + 1, n);
 }
 
 // The same with a dot in front.
-fn put_dotted(tree: &[u8], o: u32, out: &mut [u8], at: usize) -> usize
-    requires { Room at 258 }
-    ensures { Wrote out.old at (dotted_bytes tree.now o) out.new result × (result ≤ at + 258) }
+fn put_dotted(tree: &[u8], o: u32, out: &mut Writer<'_>)
+    requires { Room out.old 258 }
+    ensures { Puts out.old out.new (dotted_bytes tree.now o) 258 }
 {
     let k = o as usize;
     let n = wire::get_u8(tree, k, 0);
-    let e = put_half(out, at, (n as u16) + 1);
-    let f = put_byte(out, e, b'.');
-    put_bytes(tree, k + 1, n, out, f)
+    out.half(n as u16 + 1);
+    out.byte(b'.');
+    out.bytes(tree, k + 1, n);
 }
 
 // A hash: the high word and the low one.
-fn put_hash(ws: &[u32], k: usize, out: &mut [u8], at: usize) -> usize
-    requires { (k < 2 ^ 40) × Room at 8 }
-    ensures { Wrote out.old at (hash_bytes ws.now k) out.new result × (result ≤ at + 8) }
+fn put_hash(ws: &[u32], k: usize, out: &mut Writer<'_>)
+    requires { (k < 2 ^ 40) × Room out.old 8 }
+    ensures { Puts out.old out.new (hash_bytes ws.now k) 8 }
 {
     let a = word(ws, k);
     let b = word(ws, k + 1);
-    let e = put_word(out, at, a);
-    put_word(out, e, b)
+    out.word(a);
+    out.word(b);
 }
 
 #[derive(Clone, Copy, Drop)]
@@ -99,11 +99,11 @@ impl Entries for Names<'_> {
 
     ghost most = { 265 };
 
-    fn put(&self, i: usize, out: &mut [u8], at: usize) -> usize {
+    fn put(&self, i: usize, out: &mut Writer<'_>) {
         let k = layout::NAMES + 3 * i;
         let o = word(self.ws, k + 2);
-        let e = put_hash(self.ws, k, out, at);
-        put_text(self.tree, o, out, e)
+        put_hash(self.ws, k, out);
+        put_text(self.tree, o, out);
     }
 }
 
@@ -118,9 +118,9 @@ impl Entries for Temps<'_> {
 
     ghost most = { 2 };
 
-    fn put(&self, i: usize, out: &mut [u8], at: usize) -> usize {
+    fn put(&self, i: usize, out: &mut Writer<'_>) {
         let w = word(self.ws, layout::TEMPS + i);
-        put_half(out, at, (w % 65536) as u16)
+        out.half((w % 65536) as u16);
     }
 }
 
@@ -135,13 +135,13 @@ impl Entries for Members<'_> {
 
     ghost most = { 524 };
 
-    fn put(&self, i: usize, out: &mut [u8], at: usize) -> usize {
+    fn put(&self, i: usize, out: &mut Writer<'_>) {
         let k = layout::MEMBERS + 6 * i;
         let o = word(self.ws, k + 4);
         let p = word(self.ws, k + 5);
-        let e = put_hash(self.ws, k, out, at);
-        let f = put_dotted(self.tree, o, out, e);
-        put_dotted(self.tree, p, out, f)
+        put_hash(self.ws, k, out);
+        put_dotted(self.tree, o, out);
+        put_dotted(self.tree, p, out);
     }
 }
 
@@ -156,22 +156,22 @@ impl Entries for Stores<'_> {
 
     ghost most = { 524285 };
 
-    fn put(&self, i: usize, out: &mut [u8], at: usize) -> usize {
+    fn put(&self, i: usize, out: &mut Writer<'_>) {
         let ws = self.ws;
         let k = layout::STORES + 4 * i;
         let root = word(ws, k);
         let index = word(ws, k + 1);
         let first = word(ws, k + 2);
         let count = word(ws, k + 3) % 65536;
-        let e = put_byte(out, at, (root % 256) as u8);
-        let f = put_half(out, e, (index % 65536) as u16);
-        let g = put_half(out, f, count as u16);
+        out.byte((root % 256) as u8);
+        out.half((index % 65536) as u16);
+        out.half(count as u16);
         let path = Words {
             ws,
             from: layout::PATHS + 2 * (first as usize),
             base: 0,
         };
-        put_all(&path, 2 * (count as usize), out, g)
+        out.all(&path, 2 * (count as usize));
     }
 }
 
@@ -187,21 +187,21 @@ impl Entries for Calls<'_> {
 
     ghost most = { 262145 };
 
-    fn put(&self, i: usize, out: &mut [u8], at: usize) -> usize {
+    fn put(&self, i: usize, out: &mut Writer<'_>) {
         let ws = self.ws;
         let k = layout::CALLS + 4 * i;
         let index = word(ws, k);
         let impl_idx = word(ws, k + 1);
         let count = word(ws, k + 2) % 65536;
         let first = word(ws, k + 3);
-        let e = put_half(out, at, (index % 65536) as u16);
-        let f = put_byte(out, e, (impl_idx % 256) as u8);
-        let g = put_half(out, f, count as u16);
+        out.half((index % 65536) as u16);
+        out.byte((impl_idx % 256) as u8);
+        out.half(count as u16);
         let starts = Words {
             ws,
             from: layout::ARGUMENTS + first as usize,
             base: self.base,
         };
-        put_all(&starts, count as usize, out, g)
+        out.all(&starts, count as usize);
     }
 }

@@ -1,7 +1,7 @@
-// Fields of the image: numbers behind one another, and runs of them. What lies past the end of the output is not written.
+// Fields of the image: numbers behind one another, and runs of them.
 ghost use Rattle.std.specs.Prelude.{◌≡◌, List, [], ℕ, ◌+◌, ◌*◌, ◌^◌, ◌≤◌, ◌<◌};
 ghost use Rattle.wire.specs.Bytes.{be};
-ghost use Rattle.card.specs.Written.{Wrote, cat, Room};
+ghost use Rattle.card.specs.Written.{Wrote, Room, Puts, cat};
 ghost use Rattle.card.specs.Image.{word_entry, byte_entry};
 
 use workspace::words::{plus, word};
@@ -15,14 +15,6 @@ pub(crate) fn put_byte(out: &mut [u8], at: usize, n: u8) -> usize
     at + 1
 }
 
-pub(crate) fn put_half(out: &mut [u8], at: usize, n: u16) -> usize
-    requires { at < 2 ^ 62 }
-    ensures { Wrote out.old at (be 2 n []) out.new result × (result ≡ at + 2) }
-{
-    endian::put_u16(out, at, n);
-    at + 2
-}
-
 pub(crate) fn put_word(out: &mut [u8], at: usize, n: u32) -> usize
     requires { at < 2 ^ 62 }
     ensures { Wrote out.old at (be 4 n []) out.new result × (result ≡ at + 4) }
@@ -31,28 +23,75 @@ pub(crate) fn put_word(out: &mut [u8], at: usize, n: u32) -> usize
     at + 4
 }
 
+// The output, and the place of the next byte. What lies past the end of the output is not written.
+#[derive(Drop)]
+pub(crate) struct Writer<'a> {
+    pub(crate) out: &'a mut [u8],
+    pub(crate) at: usize,
+}
+
+impl Writer<'_> {
+    pub(crate) fn byte(&mut self, n: u8)
+        requires { Room self.old 1 }
+        ensures { Puts self.old self.new (be 1 n []) 1 }
+    {
+        endian::put_u8(self.out, self.at, n);
+        self.at += 1;
+    }
+
+    pub(crate) fn half(&mut self, n: u16)
+        requires { Room self.old 2 }
+        ensures { Puts self.old self.new (be 2 n []) 2 }
+    {
+        endian::put_u16(self.out, self.at, n);
+        self.at += 2;
+    }
+
+    pub(crate) fn word(&mut self, n: u32)
+        requires { Room self.old 4 }
+        ensures { Puts self.old self.new (be 4 n []) 4 }
+    {
+        endian::put_u32(self.out, self.at, n);
+        self.at += 4;
+    }
+
+    // The first `n` entries, one behind the other.
+    pub(crate) fn all<E: Entries>(&mut self, entries: &E, n: usize)
+        requires { (n < 2 ^ 20) × Room self.old (E.most * n) }
+        ensures { Puts self.old self.new (cat (E.bytes_of entries.now) n) (E.most * n) }
+    {
+        for i in 0..n {
+            entries.put(i, self);
+        }
+    }
+
+    // The `n` bytes of the tree image from `from` on, in one run where they have their place.
+    pub(crate) fn bytes(&mut self, tree: &[u8], from: usize, n: u8)
+        requires { Room self.old n }
+        ensures { Puts self.old self.new (cat (byte_entry tree.now from) n) n }
+    {
+        let k = n as usize;
+        let at = self.at;
+        if from <= tree.len() && at <= self.out.len() {
+            if k <= tree.len() - from && k <= self.out.len() - at {
+                self.out[at..at + k].copy_from_slice(&tree[from..from + k]);
+                self.at += k;
+                return;
+            }
+        }
+        self.all(&Bytes { tree, from }, k);
+    }
+}
+
 // Entries of one kind: the bytes of each, and how many it has at most.
 pub(crate) trait Entries {
     ghost bytes_of: { Self → ℕ → List ℕ };
 
     ghost most: { ℕ };
 
-    // Entry `i` at `at`; the place behind it.
-    fn put(&self, i: usize, out: &mut [u8], at: usize) -> usize
-        requires { (i < 2 ^ 20) × Room at most }
-        ensures { Wrote out.old at (bytes_of self.now i) out.new result × (result ≤ at + most) };
-}
-
-// The first `n` entries, one behind the other.
-pub(crate) fn put_all<E: Entries>(entries: &E, n: usize, out: &mut [u8], at: usize) -> usize
-    requires { (n < 2 ^ 20) × Room at (E.most * n) }
-    ensures { Wrote out.old at (cat (E.bytes_of entries.now) n) out.new result × (result ≤ at + E.most * n) }
-{
-    let mut end = at;
-    for i in 0..n {
-        end = entries.put(i, out, end);
-    }
-    end
+    fn put(&self, i: usize, out: &mut Writer<'_>)
+        requires { (i < 2 ^ 20) × Room out.old most }
+        ensures { Puts out.old out.new (bytes_of self.now i) most };
 }
 
 // The words from `from` on, `base` added to each.
@@ -69,10 +108,10 @@ impl Entries for Words<'_> {
 
     ghost most = { 4 };
 
-    fn put(&self, i: usize, out: &mut [u8], at: usize) -> usize {
+    fn put(&self, i: usize, out: &mut Writer<'_>) {
         let w = word(self.ws, self.from + i);
         let v = plus(w, self.base);
-        put_word(out, at, v)
+        out.word(v);
     }
 }
 
@@ -88,23 +127,8 @@ impl Entries for Bytes<'_> {
 
     ghost most = { 1 };
 
-    fn put(&self, i: usize, out: &mut [u8], at: usize) -> usize {
+    fn put(&self, i: usize, out: &mut Writer<'_>) {
         let b = wire::get_u8(self.tree, self.from, i as u32);
-        put_byte(out, at, b)
+        out.byte(b);
     }
-}
-
-// The `n` bytes of the tree image from `from` on, in one run where they have their place.
-pub(crate) fn put_bytes(tree: &[u8], from: usize, n: u8, out: &mut [u8], at: usize) -> usize
-    requires { Room at n }
-    ensures { Wrote out.old at (cat (byte_entry tree.now from) n) out.new result × (result ≤ at + n) }
-{
-    let k = n as usize;
-    if from <= tree.len() && at <= out.len() {
-        if k <= tree.len() - from && k <= out.len() - at {
-            out[at..at + k].copy_from_slice(&tree[from..from + k]);
-            return at + k;
-        }
-    }
-    put_all(&Bytes { tree, from }, k, out, at)
 }

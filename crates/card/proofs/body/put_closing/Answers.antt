@@ -1,8 +1,9 @@
-use Rattle.std.proofs.Common.{◌≡◌, Bool, true, false, refl}
+use Rattle.std.proofs.Common.{◌≡◌, Bool, true, false, [], refl, ap, ◌∙◌, rules}
 use mir.Val.{bool_byte}
+use Rattle.wire.specs.Bytes.{be}
 use Rattle.program.specs.Image.{bit}
 use Rattle.card.specs.Image.{depths_bytes, closing_bytes}
-use Rattle.card.proofs.Join.{join, being}
+use Rattle.card.proofs.Join.{then, as_is}
 use Rattle.card.proofs.body.put_closing.Goals as goal
 
 byte_is : (b : Bool) → bool_byte b ≡ bit b
@@ -13,5 +14,7 @@ byte_is false = refl
 pub returns : goal.returns
 unfolding depths_bytes closing_bytes
 returns c =
-    let depths = join (join c.put_half-e.ensures.0 c.put_half-f.ensures.0) c.put_half-g.ensures.0 in
-    join (join depths c.put_half-h.ensures.0) (being c.put_byte.ensures.0 (rw (c.from.ensures, byte_is)))
+    let depths = then (then c.half.ensures c.half-2.ensures) c.half-3.ensures in
+    let flag = as_is c.byte.ensures (ap (λ n. be 1 n []) (c.from.ensures ∙ byte_is c.args.c.float_loop)) in
+    let wrote = then (then depths c.half-4.ensures) flag in
+    search rules

@@ -1,5 +1,6 @@
-use Rattle.card.proofs.Join.{join}
+use Rattle.std.proofs.Common.{rules}
+use Rattle.card.proofs.Join.{then}
 use Rattle.card.proofs.body.put_section.Goals as goal
 
 pub returns : goal.returns
-returns g c = join c.put_word-e.ensures.0 c.put_all.ensures.0
+returns g c = let wrote = then c.word.ensures c.all.ensures in search rules
