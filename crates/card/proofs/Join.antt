@@ -6,7 +6,7 @@ use native.Mathlib.Numerals.{add-one}
 use native.Mathlib.Nat.{zero-add}
 use native.Mathlib.Omega.{arith}
 use lib.ListN.{length, length-append, drop}
-use lib.Seq.{sets, sets-eq, length-sets}
+use lib.Seq.{sets, sets-eq}
 use Rattle.wire.specs.Bytes.{be}
 use Rattle.wire.proofs.Numbers.{be_length}
 use Rattle.wire.proofs.Stores.{sets_join, sets_before}
@@ -53,9 +53,6 @@ begun f m = record { same = refl; wrote = record { bytes = refl; next = omega ar
 pub more : {w v u : Writer} (f : ℕ → List ℕ) (m i : ℕ) → Puts w v (cat f i) (m * i) → Puts v u (f i) m → Puts w u (cat f (i + 1)) (m * (i + 1))
 unfolding cat
 more f m i p q = widened (as_is (then p q) (sym (ap (cat f) (add-one i)))) (omega arith)
-
-pub kept : {s t vs : List ℕ} {at r : ℕ} → Wrote s at vs t r → length t ≡ length s
-kept {s} {t} {vs} {at} p = ap length p.bytes ∙ length-sets s at vs
 
 -- all that was written from the start on, where it has its place
 pub whole : {s vs t : List ℕ} {r : ℕ} → Wrote s 0 vs t r → length vs ≤ length s → t ≡ vs ++ drop (length vs) s

@@ -34,7 +34,7 @@ fn put_instruction(w: u32, a: u32, base: u32, out: &mut Writer<'_>)
 }
 
 // The instructions from `from` on, their targets counted from `base`.
-#[derive(Clone, Copy, Drop)]
+#[derive(Drop)]
 pub(crate) struct Instructions<'a> {
     pub(crate) ws: &'a [u32],
     pub(crate) from: usize,
@@ -88,7 +88,7 @@ fn put_hash(ws: &[u32], k: usize, out: &mut Writer<'_>)
     out.word(b);
 }
 
-#[derive(Clone, Copy, Drop)]
+#[derive(Drop)]
 pub(crate) struct Names<'a> {
     pub(crate) tree: &'a [u8],
     pub(crate) ws: &'a [u32],
@@ -108,7 +108,7 @@ impl Entries for Names<'_> {
 }
 
 // A temp: the low half of its word.
-#[derive(Clone, Copy, Drop)]
+#[derive(Drop)]
 pub(crate) struct Temps<'a> {
     pub(crate) ws: &'a [u32],
 }
@@ -124,7 +124,7 @@ impl Entries for Temps<'_> {
     }
 }
 
-#[derive(Clone, Copy, Drop)]
+#[derive(Drop)]
 pub(crate) struct Members<'a> {
     pub(crate) tree: &'a [u8],
     pub(crate) ws: &'a [u32],
@@ -146,7 +146,7 @@ impl Entries for Members<'_> {
 }
 
 // A store's root, and the hashes of its path.
-#[derive(Clone, Copy, Drop)]
+#[derive(Drop)]
 pub(crate) struct Stores<'a> {
     pub(crate) ws: &'a [u32],
 }
@@ -176,7 +176,7 @@ impl Entries for Stores<'_> {
 }
 
 // A call's query, and the starts of its arguments, `base` added to each.
-#[derive(Clone, Copy, Drop)]
+#[derive(Drop)]
 pub(crate) struct Calls<'a> {
     pub(crate) ws: &'a [u32],
     pub(crate) base: u32,

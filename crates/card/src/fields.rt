@@ -72,14 +72,13 @@ impl Writer<'_> {
     {
         let k = n as usize;
         let at = self.at;
-        if from <= tree.len() && at <= self.out.len() {
-            if k <= tree.len() - from && k <= self.out.len() - at {
-                self.out[at..at + k].copy_from_slice(&tree[from..from + k]);
-                self.at += k;
-                return;
-            }
+        let (size, room) = (tree.len(), self.out.len());
+        if from <= size && k <= size - from && at <= room && k <= room - at {
+            self.out[at..at + k].copy_from_slice(&tree[from..from + k]);
+            self.at += k;
+        } else {
+            self.all(&Bytes { tree, from }, k);
         }
-        self.all(&Bytes { tree, from }, k);
     }
 }
 
@@ -95,7 +94,7 @@ pub(crate) trait Entries {
 }
 
 // The words from `from` on, `base` added to each.
-#[derive(Clone, Copy, Drop)]
+#[derive(Drop)]
 pub(crate) struct Words<'a> {
     pub(crate) ws: &'a [u32],
     pub(crate) from: usize,
@@ -116,7 +115,7 @@ impl Entries for Words<'_> {
 }
 
 // The bytes of the tree image from `from` on.
-#[derive(Clone, Copy, Drop)]
+#[derive(Drop)]
 struct Bytes<'a> {
     tree: &'a [u8],
     from: usize,

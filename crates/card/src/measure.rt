@@ -42,7 +42,7 @@ impl Measured for Names<'_> {
     fn size(&self, i: usize) -> usize {
         let o = word(self.ws, layout::NAMES + 3 * i + 2);
         let t = wire::get_u8(self.tree, o as usize, 0);
-        NAME + t as usize
+        NAME + usize::from(t)
     }
 }
 
@@ -52,7 +52,7 @@ impl Measured for Members<'_> {
         let p = word(self.ws, layout::MEMBERS + 6 * i + 5);
         let t = wire::get_u8(self.tree, o as usize, 0);
         let u = wire::get_u8(self.tree, p as usize, 0);
-        MEMBER + (t as usize) + u as usize
+        MEMBER + usize::from(t) + usize::from(u)
     }
 }
 
@@ -114,14 +114,14 @@ pub(crate) fn sums_of(tree: &[u8], ws: &[u32], c: Sections) -> Sums
     let consts = COUNT + WORD * (c.consts as usize) + posts;
     let code = COUNT + INSTRUCTION * ((c.code as usize) + c.finished as usize) + consts;
     Sums {
-        code: code,
-        consts: consts,
-        posts: posts,
-        hashes: hashes,
-        names: names,
-        temps: temps,
-        members: members,
-        stores: stores,
-        calls: calls,
+        code,
+        consts,
+        posts,
+        hashes,
+        names,
+        temps,
+        members,
+        stores,
+        calls,
     }
 }
