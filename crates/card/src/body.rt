@@ -15,7 +15,7 @@ use crate::measure::Sums;
 use numeric::{PostBits, PostOp};
 use workspace::layout;
 
-// A section: the count of its entries, and the entries.
+// A section: the count of its entries, and the entries. `as` widens a count here and below, since a proof reads through it and not through `from`.
 fn put_section<E: Entries>(entries: &E, n: u16, out: &mut [u8], at: usize)
     requires { at + (4 + E.most * n) < 2 ^ 60 }
     ensures { out.new ≡ sets out.old at (be 4 n [] ++ cat (E.bytes_of entries.now) n) }
@@ -74,6 +74,7 @@ fn put_posts(ws: &[u32], n: u16, out: &mut [u8], at: usize)
     w.all(&further, 2 * (n as usize));
 }
 
+// A count of pairs, and twice as many words.
 fn put_hashes(ws: &[u32], n: u16, out: &mut [u8], at: usize)
     requires { at < 2 ^ 56 }
     ensures { out.new ≡ sets out.old at (hashes_section ws.now n) }
@@ -101,6 +102,7 @@ fn put_closing(c: Sections, out: &mut [u8], at: usize)
 }
 
 // All that stands behind the length, from the back: each section begins at the closing fields' place less the running sum that ends with it.
+#[tactic(auto, using(crate::proofs::Starts::all_within))]
 pub(crate) fn put_body(
     tree: &[u8],
     ws: &[u32],

@@ -54,7 +54,7 @@ impl Entries for Instructions<'_> {
     }
 }
 
-// The text of the tree image whose length byte stands at `o`.
+// The text of the tree image whose length byte stands at `o`. `as` widens the length, since a proof reads through it and not through `from`.
 fn put_text(tree: &[u8], o: u32, out: &mut Writer<'_>)
     requires { Room out.old 257 }
     ensures { Puts out.old out.new (text_bytes tree.now o) 257 }

@@ -1,4 +1,6 @@
 // Fields of the image: numbers behind one another, and runs of them.
+#![tactic(auto, using(crate::proofs::Join::field))]
+
 ghost use Rattle.std.specs.Prelude.{◌≡◌, List, [], ℕ, ◌+◌, ◌*◌, ◌^◌, ◌≤◌, ◌<◌};
 ghost use Rattle.wire.specs.Bytes.{be};
 ghost use Rattle.card.specs.Written.{Wrote, Room, Puts, cat};
@@ -6,7 +8,7 @@ ghost use Rattle.card.specs.Image.{word_entry, byte_entry};
 
 use workspace::words::{plus, word};
 
-// A number at `at`; the place behind it.
+// A number at `at`; the place behind it. For the image's head alone, which a writer would make no plainer: two numbers, and the body from its back.
 pub(crate) fn put_byte(out: &mut [u8], at: usize, n: u8) -> usize
     requires { at < 2 ^ 62 }
     ensures { Wrote out.old at (be 1 n []) out.new result × (result ≡ at + 1) }
@@ -65,7 +67,7 @@ impl Writer<'_> {
         }
     }
 
-    // The `n` bytes of the tree image from `from` on, in one run where they have their place.
+    // The `n` bytes of the tree image from `from` on, in one run where they have their place. `get` and `get_mut` would be no plainer: `from` and `at` have no bound.
     pub(crate) fn bytes(&mut self, tree: &[u8], from: usize, n: u8)
         requires { Room self.old n }
         ensures { Puts self.old self.new (cat (byte_entry tree.now from) n) n }

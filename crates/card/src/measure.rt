@@ -71,6 +71,7 @@ impl Measured for Calls<'_> {
 }
 
 // The bytes of the first `n` entries.
+#[tactic(auto, using(crate::proofs::Lengths::begun, crate::proofs::Lengths::more))]
 fn sizes<E: Measured>(entries: &E, n: u16) -> usize
     requires { E.Entries.most < 2 ^ 20 }
     ensures { (result ≡ length (cat (E.Entries.bytes_of entries.now) n)) × (result ≤ 2 ^ 20 * n) }
@@ -96,7 +97,7 @@ pub(crate) struct Sums {
     pub(crate) calls: usize,
 }
 
-// From calls to code, one section more at each step; a post stands in slot 0 too.
+// From calls to code, one section more at each step; a post stands in slot 0 too. `as` widens a count, since a proof reads through it and not through `from`.
 pub(crate) fn sums_of(tree: &[u8], ws: &[u32], c: Sections) -> Sums
     ensures { (result ≡ sums_of tree.now ws.now c) × (result.code ≤ 2 ^ 44) }
 {
@@ -110,9 +111,9 @@ pub(crate) fn sums_of(tree: &[u8], ws: &[u32], c: Sections) -> Sums
     let temps = COUNT + HALF * (c.temps as usize) + members;
     let names = COUNT + sizes(&Names { tree, ws }, c.names) + temps;
     let hashes = COUNT + PAIR * (c.hashes as usize) + names;
-    let posts = COUNT + PAIR * ((c.posts as usize) + 1) + hashes;
+    let posts = COUNT + PAIR * (c.posts as usize + 1) + hashes;
     let consts = COUNT + WORD * (c.consts as usize) + posts;
-    let code = COUNT + INSTRUCTION * ((c.code as usize) + c.finished as usize) + consts;
+    let code = COUNT + INSTRUCTION * (c.code as usize + c.finished as usize) + consts;
     Sums {
         code,
         consts,

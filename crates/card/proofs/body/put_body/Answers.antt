@@ -3,35 +3,8 @@ use native.Mathlib.Omega.{arith}
 use Rattle.card.specs.declared.measure.Sums.{Sums}
 use Rattle.card.specs.Image.{sections_of, consts_section, names_section, temps_section, members_section, stores_section, calls_section}
 use Rattle.card.specs.Starts.{sums_of}
-use Rattle.card.proofs.Starts.{all_within, closed, one_more, all_nine}
+use Rattle.card.proofs.Starts.{closed, one_more, all_nine}
 use Rattle.card.proofs.body.put_body.Goals as goal
-
-pub overflow_sub-closing : goal.overflow_sub-closing
-overflow_sub-closing c = omega (arith, all_within c.args.tree.now c.args.ws.now c.args.c c.requires.0 c.requires.1)
-
-pub overflow_sub-closing-2 : goal.overflow_sub-closing-2
-overflow_sub-closing-2 c = omega (arith, all_within c.args.tree.now c.args.ws.now c.args.c c.requires.0 c.requires.1)
-
-pub overflow_sub-closing-3 : goal.overflow_sub-closing-3
-overflow_sub-closing-3 c = omega (arith, all_within c.args.tree.now c.args.ws.now c.args.c c.requires.0 c.requires.1)
-
-pub overflow_sub-closing-4 : goal.overflow_sub-closing-4
-overflow_sub-closing-4 c = omega (arith, all_within c.args.tree.now c.args.ws.now c.args.c c.requires.0 c.requires.1)
-
-pub overflow_sub-closing-5 : goal.overflow_sub-closing-5
-overflow_sub-closing-5 c = omega (arith, all_within c.args.tree.now c.args.ws.now c.args.c c.requires.0 c.requires.1)
-
-pub overflow_sub-closing-6 : goal.overflow_sub-closing-6
-overflow_sub-closing-6 c = omega (arith, all_within c.args.tree.now c.args.ws.now c.args.c c.requires.0 c.requires.1)
-
-pub overflow_sub-closing-7 : goal.overflow_sub-closing-7
-overflow_sub-closing-7 c = omega (arith, all_within c.args.tree.now c.args.ws.now c.args.c c.requires.0 c.requires.1)
-
-pub overflow_sub-closing-8 : goal.overflow_sub-closing-8
-overflow_sub-closing-8 c = omega (arith, all_within c.args.tree.now c.args.ws.now c.args.c c.requires.0 c.requires.1)
-
-pub overflow_sub-closing-9 : goal.overflow_sub-closing-9
-overflow_sub-closing-9 c = omega (arith, all_within c.args.tree.now c.args.ws.now c.args.c c.requires.0 c.requires.1)
 
 pub returns : goal.returns
 unfolding sections_of sums_of consts_section names_section temps_section members_section stores_section calls_section
