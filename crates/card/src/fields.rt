@@ -8,7 +8,7 @@ ghost use Rattle.card.specs.Image.{word_entry, byte_entry};
 
 use workspace::words::{plus, word};
 
-// A number at `at`; the place behind it. For the image's head alone, which a writer would make no plainer: two numbers, and the body from its back.
+// A number at `at`; the place behind it. For the image's head.
 pub(crate) fn put_byte(out: &mut [u8], at: usize, n: u8) -> usize
     requires { at < 2 ^ 62 }
     ensures { Wrote out.old at (be 1 n []) out.new result × (result ≡ at + 1) }
@@ -67,7 +67,7 @@ impl Writer<'_> {
         }
     }
 
-    // The `n` bytes of the tree image from `from` on, in one run where they have their place. `get` and `get_mut` would be no plainer: `from` and `at` have no bound.
+    // The `n` bytes of the tree image from `from` on, in one run where they have their place.
     pub(crate) fn bytes(&mut self, tree: &[u8], from: usize, n: u8)
         requires { Room self.old n }
         ensures { Puts self.old self.new (cat (byte_entry tree.now from) n) n }
