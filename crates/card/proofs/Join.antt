@@ -11,7 +11,8 @@ use Rattle.wire.specs.Bytes.{be}
 use Rattle.wire.proofs.Numbers.{be_length}
 use Rattle.wire.proofs.Stores.{sets_join, sets_before}
 use Rattle.card.specs.declared.fields.Writer.{Writer}
-use Rattle.card.specs.Written.{Wrote, Puts, cat}
+use Rattle.card.specs.Written.{Wrote, cat}
+use Rattle.card.specs.Puts.{Puts}
 
 -- a number of k bytes
 pub field : {s t : List ℕ} {at : ℕ} (k v : ℕ) → t ≡ sets s at (be k v []) → Wrote s at (be k v []) t (at + k)

@@ -1,22 +1,11 @@
 -- Bytes that are laid over a list from a place on, as far as it reaches, and entries one behind the other. Definitions only.
-use Rattle.std.specs.Prelude.{◌≡◌, List, [], ◌∷◌, ◌++◌, ℕ, zero, suc, ◌+◌, ◌^◌, ◌≤◌, ◌<◌, length}
+use Rattle.std.specs.Prelude.{◌≡◌, List, [], ◌∷◌, ◌++◌, ℕ, zero, suc, ◌+◌, length}
 use Rattle.std.proofs.lemmas.List.Edits.{sets}
-use Rattle.card.specs.declared.fields.Writer.{Writer}
 
 -- t is s with the bytes vs from at on, as far as s reaches, and r is the place behind them
 pub record Wrote (s : List ℕ) (at : ℕ) (vs : List ℕ) (t : List ℕ) (r : ℕ) : Type 0 where
   pub bytes : t ≡ sets s at vs
   pub next : r ≡ at + length vs
-
--- a writer's place with n bytes behind it can still be counted
-abbrev pub Room : Writer → ℕ → Type 0
-Room w n = w.at + n < 2 ^ 60
-
--- v is w with the bytes vs written at its place, which goes on by no more than most
-pub record Puts (w v : Writer) (vs : List ℕ) (most : ℕ) : Type 0 where
-  pub same : v.out.ghost_name ≡ w.out.ghost_name
-  pub wrote : Wrote w.out.now w.at vs v.out.now v.at
-  pub within : v.at ≤ w.at + most
 
 -- f 0, f 1, .. f (n - 1), one behind the other
 unfoldable pub cat : (ℕ → List ℕ) → ℕ → List ℕ

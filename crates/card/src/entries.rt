@@ -1,7 +1,7 @@
 // The sections' entries: what each kind writes for one index.
 ghost use Rattle.std.specs.Prelude.{◌≡◌, ◌+◌, ◌*◌, ◌^◌, ◌≤◌, ◌<◌};
 ghost use Rattle.workspace.specs.Layout.{TEMPS};
-ghost use Rattle.card.specs.Written.{Room, Puts};
+ghost use Rattle.card.specs.Puts.{Room, Puts};
 ghost use Rattle.card.specs.Image.{
   instruction_bytes,
   instruction_entry,

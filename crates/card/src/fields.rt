@@ -3,7 +3,8 @@
 
 ghost use Rattle.std.specs.Prelude.{◌≡◌, List, [], ℕ, ◌+◌, ◌*◌, ◌^◌, ◌≤◌, ◌<◌};
 ghost use Rattle.wire.specs.Bytes.{be};
-ghost use Rattle.card.specs.Written.{Wrote, Room, Puts, cat};
+ghost use Rattle.card.specs.Written.{Wrote, cat};
+ghost use Rattle.card.specs.Puts.{Room, Puts};
 ghost use Rattle.card.specs.Image.{word_entry, byte_entry};
 
 use workspace::words::{plus, word};

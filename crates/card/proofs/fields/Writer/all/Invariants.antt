@@ -1,5 +1,6 @@
 use Rattle.std.proofs.Common.{◌*◌}
-use Rattle.card.specs.Written.{Puts, cat}
+use Rattle.card.specs.Written.{cat}
+use Rattle.card.specs.Puts.{Puts}
 use Rattle.card.proofs.fields.Writer.all.Given as goal
 
 abbrev pub invariant-loop-i : goal.invariant-loop-i
