@@ -1,16 +1,18 @@
 -- How what was written joins: one run behind another, one in front of another, one turn of a loop more, and the whole. Assumes nothing.
 use mathlib.Core.Path.{◌≡◌, refl, ap, sym, ◌∙◌}
 use mathlib.Core.List.{List, [], ◌++◌}
-use Prim.Native.Nat.{ℕ, ◌+◌, ◌≤◌}
+use Prim.Native.Nat.{ℕ, ◌+◌, ◌*◌, ◌≤◌}
 use native.Mathlib.Numerals.{add-one}
 use native.Mathlib.Nat.{zero-add}
 use native.Mathlib.Omega.{arith}
 use lib.ListN.{length, length-append, drop}
-use lib.Seq.{sets, sets-eq, length-sets}
+use lib.Seq.{sets, sets-eq}
 use Rattle.wire.specs.Bytes.{be}
 use Rattle.wire.proofs.Numbers.{be_length}
 use Rattle.wire.proofs.Stores.{sets_join, sets_before}
+use Rattle.card.specs.declared.fields.Writer.{Writer}
 use Rattle.card.specs.Written.{Wrote, cat}
+use Rattle.card.specs.Puts.{Puts}
 
 -- a number of k bytes
 pub field : {s t : List ℕ} {at : ℕ} (k v : ℕ) → t ≡ sets s at (be k v []) → Wrote s at (be k v []) t (at + k)
@@ -34,20 +36,24 @@ ahead {s} {t} {u} {vs} {ws} {at} {e} {r} p q = record {
 pub being : {s t vs ws : List ℕ} {at r : ℕ} → Wrote s at vs t r → vs ≡ ws → Wrote s at ws t r
 being {s} {t} {vs} {ws} {at} {r} p e = rw (← e) p
 
--- a loop begins, goes one turn further, and ends
-pub begun : {s : List ℕ} {at : ℕ} (f : ℕ → List ℕ) → Wrote s at (cat f 0) s at
+-- the same by a writer: one behind the other, the same bytes written otherwise, and a wider bound
+pub then : {w v u : Writer} {vs us : List ℕ} {m k : ℕ} → Puts w v vs m → Puts v u us k → Puts w u (vs ++ us) (m + k)
+then p q = record { same = q.same ∙ p.same; wrote = join p.wrote q.wrote; within = omega (arith, p.within, q.within) }
+
+pub as_is : {w v : Writer} {vs us : List ℕ} {m : ℕ} → Puts w v vs m → vs ≡ us → Puts w v us m
+as_is p e = record { same = p.same; wrote = being p.wrote e; within = p.within }
+
+pub widened : {w v : Writer} {vs : List ℕ} {m k : ℕ} → Puts w v vs m → m ≤ k → Puts w v vs k
+widened p h = record { same = p.same; wrote = p.wrote; within = omega (arith, p.within) }
+
+-- a loop over entries begins, and goes one turn further
+pub begun : {w : Writer} (f : ℕ → List ℕ) (m : ℕ) → Puts w w (cat f 0) (m * 0)
 unfolding cat
-begun f = record { bytes = refl; next = omega arith }
+begun f m = record { same = refl; wrote = record { bytes = refl; next = omega arith }; within = omega arith }
 
-pub more : {s t u : List ℕ} {at e r i : ℕ} (f : ℕ → List ℕ) → Wrote s at (cat f i) t e → Wrote t e (f i) u r → Wrote s at (cat f (i + 1)) u r
+pub more : {w v u : Writer} (f : ℕ → List ℕ) (m i : ℕ) → Puts w v (cat f i) (m * i) → Puts v u (f i) m → Puts w u (cat f (i + 1)) (m * (i + 1))
 unfolding cat
-more {i = i} f p q = being (join p q) (sym (ap (cat f) (add-one i)))
-
-pub done : {s t : List ℕ} {at r i n : ℕ} (f : ℕ → List ℕ) → Wrote s at (cat f i) t r → n ≤ i → i ≤ n → Wrote s at (cat f n) t r
-done {s} {t} {at} {r} {i} {n} f p q q' = let e : i ≡ n = omega arith in rw (← e) p
-
-pub kept : {s t vs : List ℕ} {at r : ℕ} → Wrote s at vs t r → length t ≡ length s
-kept {s} {t} {vs} {at} p = ap length p.bytes ∙ length-sets s at vs
+more f m i p q = widened (as_is (then p q) (sym (ap (cat f) (add-one i)))) (omega arith)
 
 -- all that was written from the start on, where it has its place
 pub whole : {s vs t : List ℕ} {r : ℕ} → Wrote s 0 vs t r → length vs ≤ length s → t ≡ vs ++ drop (length vs) s

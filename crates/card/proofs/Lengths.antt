@@ -1,7 +1,7 @@
 -- How long the parts of the image are. Assumes nothing.
 use mathlib.Core.Path.{◌≡◌, refl, ap, ap₂, sym, ◌∙◌}
 use mathlib.Core.List.{List, [], ◌++◌}
-use Prim.Native.Nat.{ℕ, zero, suc, ◌+◌, ◌*◌, ◌%◌, ◌≤◌}
+use Prim.Native.Nat.{ℕ, zero, suc, ◌+◌, ◌*◌, ◌%◌}
 use native.Mathlib.Nat.{mul-suc, mul-zero}
 use native.Mathlib.Numerals.{add-one}
 use native.Mathlib.Omega.{arith}
@@ -17,20 +17,14 @@ use Rattle.card.specs.Image.{word_entry, half_entry, byte_entry, instruction_byt
 sized : (k v : ℕ) → length (be k v []) ≡ k
 sized k v = be_length k v [] ∙ omega arith
 
--- e bytes in the first i entries: a loop begins, goes one turn further, and ends
-pub record Counted (f : ℕ → List ℕ) (i e : ℕ) : Type 0 where
-  pub is : e ≡ length (cat f i)
-
-pub begun : (f : ℕ → List ℕ) → Counted f 0 0
+-- e bytes in the first i entries: a loop begins, and goes one turn further
+pub begun : (f : ℕ → List ℕ) → 0 ≡ length (cat f 0)
 unfolding cat
-begun f = record { is = refl }
+begun f = refl
 
-pub more : {e k i : ℕ} (f : ℕ → List ℕ) → Counted f i e → length (f i) ≡ k → Counted f (i + 1) (e + k)
+pub more : {e k : ℕ} (f : ℕ → List ℕ) (i : ℕ) → e ≡ length (cat f i) → k ≡ length (f i) → e + k ≡ length (cat f (i + 1))
 unfolding cat
-more {e} {k} {i} f p q = record { is = ap₂ (λ a b. a + b) p.is (sym q) ∙ sym (length-append (cat f i) (f i)) ∙ ap (λ n. length (cat f n)) (sym (add-one i)) }
-
-pub done : {e i n : ℕ} (f : ℕ → List ℕ) → Counted f i e → n ≤ i → i ≤ n → e ≡ length (cat f n)
-done {e} {i} {n} f p q q' = let h : i ≡ n = omega arith in rw (← h) p.is
+more f i p q = ap₂ (λ a b. a + b) p q ∙ sym (length-append (cat f i) (f i)) ∙ ap (λ n. length (cat f n)) (sym (add-one i))
 
 -- entries of one size
 alike : (f : ℕ → List ℕ) (k n : ℕ) → ((i : ℕ) → length (f i) ≡ k) → length (cat f n) ≡ k * n

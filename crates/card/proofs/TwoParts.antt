@@ -1,5 +1,5 @@
 -- The body is a front of five sections, and the other four with the closing fields.
-use mathlib.Core.Path.{◌≡◌, ap, sym, ◌∙◌}
+use mathlib.Core.Path.{◌≡◌}
 use mathlib.Core.List.{append_assoc}
 use Prim.Native.Nat.{ℕ}
 use Rattle.std.specs.Prelude.{List, ◌++◌}
@@ -24,18 +24,6 @@ back_of tree ws c =
     ++ calls_section ws c.code c.calls
     ++ closing_bytes c
 
-five : (a b c d e : List ℕ) → (((a ++ b) ++ c) ++ d) ++ e ≡ a ++ (b ++ (c ++ (d ++ e)))
-five a b c d e = append_assoc ((a ++ b) ++ c) d e ∙ append_assoc (a ++ b) c (d ++ e) ∙ append_assoc a b (c ++ (d ++ e))
-
 pub two_parts : (tree ws : List ℕ) (c : Sections) → body_of tree ws c ≡ front_of tree ws c ++ back_of tree ws c
 unfolding body_of joined sections_of front_of back_of
-two_parts tree ws c =
-    let code = code_section ws c.code c.finished in
-    let consts = consts_section ws c.consts in
-    let posts = posts_section ws c.posts in
-    let hashes = hashes_section ws c.hashes in
-    let names = names_section tree ws c.names in
-    let back = five (temps_section ws c.temps) (members_section tree ws c.members) (stores_section ws c.stores) (calls_section ws c.code c.calls) (closing_bytes c) in
-    sym (append_assoc (((code ++ consts) ++ posts) ++ hashes) names (back_of tree ws c)
-    ∙ five code consts posts hashes (names ++ back_of tree ws c)
-    ∙ ap (λ (r : List ℕ). code ++ (consts ++ (posts ++ (hashes ++ (names ++ r))))) back)
+two_parts tree ws c = simp append_assoc

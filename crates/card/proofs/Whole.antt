@@ -1,6 +1,5 @@
 -- The image as a whole: its length, where it is laid, the answer. Assumes nothing.
-use mathlib.Core.Path.{◌≡◌, ap, sym, ◌∙◌}
-use mathlib.Core.Bool.{Bool, cond}
+use mathlib.Core.Path.{◌≡◌, ap, ◌∙◌}
 use mathlib.Core.List.{List, [], ◌++◌}
 use Prim.Native.Nat.{ℕ, ◌+◌, ◌%◌, ◌≤◌, ◌<◌}
 use native.Mathlib.Omega.{arith}
@@ -26,22 +25,19 @@ image_length tree ws c =
 -- where the image has no place, and where it has
 pub left : (img s : List ℕ) → length s < length img → s ≡ laid img s
 unfolding laid
-left img s h = sym (ap (λ (b : Bool). cond b (img ++ drop (length img) s) s) (lt-leb (length img) (length s) h))
+left img s h = rw lt-leb
 
 pub placed : (img s : List ℕ) → length img ≤ length s → img ++ drop (length img) s ≡ laid img s
 unfolding laid
-placed img s h = sym (ap (λ (b : Bool). cond b (img ++ drop (length img) s) s) (le-leb (length img) (length s) h))
+placed img s h = rw le-leb
 
 pub nine : (img s : List ℕ) → length s < length img → Err SmallOutput ≡ answer_of img s
 unfolding answer_of
-nine img s h = sym (ap (λ (b : Bool). cond {A = Result ℕ Refusal} b (Ok (length img)) (Err SmallOutput)) (lt-leb (length img) (length s) h))
+nine img s h = rw lt-leb
 
 pub good : (img s : List ℕ) (n : ℕ) → n ≡ length img → length img ≤ length s → Ok n ≡ answer_of img s
 unfolding answer_of
-good img s n e h =
-    let f : ℕ → Result ℕ Refusal = λ k. Ok k in
-    ap f e
-    ∙ sym (ap (λ (b : Bool). cond {A = Result ℕ Refusal} b (Ok (length img)) (Err SmallOutput)) (le-leb (length img) (length s) h))
+good img s n e h = rw (le-leb, e)
 
 same : (tree ws : List ℕ) (c : Sections) {n : ℕ} → n ≡ length (body_of tree ws c) → be 1 1 [] ++ be 4 (n % 4294967296) [] ++ body_of tree ws c ≡ image_of tree ws c
 unfolding image_of

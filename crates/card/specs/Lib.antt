@@ -1,4 +1,5 @@
 pub mod Written
+pub mod Puts
 pub mod Image
 pub mod Starts
 pub mod Holds

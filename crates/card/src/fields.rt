@@ -1,26 +1,21 @@
-// Fields of the image: numbers behind one another, and runs of them. What lies past the end of the output is not written.
-ghost use Rattle.std.specs.Prelude.{◌≡◌, [], ◌+◌, ◌*◌, ◌^◌, ◌≤◌, ◌<◌};
+// Fields of the image: numbers behind one another, and runs of them.
+#![tactic(auto, using(crate::proofs::Join::field))]
+
+ghost use Rattle.std.specs.Prelude.{◌≡◌, List, [], ℕ, ◌+◌, ◌*◌, ◌^◌, ◌≤◌, ◌<◌};
 ghost use Rattle.wire.specs.Bytes.{be};
 ghost use Rattle.card.specs.Written.{Wrote, cat};
-ghost use Rattle.card.specs.Image.{word_entry, half_entry, byte_entry};
+ghost use Rattle.card.specs.Puts.{Room, Puts};
+ghost use Rattle.card.specs.Image.{word_entry, byte_entry};
 
 use workspace::words::{plus, word};
 
-// A number at `at`; the place behind it.
+// A number at `at`; the place behind it. For the image's head.
 pub(crate) fn put_byte(out: &mut [u8], at: usize, n: u8) -> usize
     requires { at < 2 ^ 62 }
     ensures { Wrote out.old at (be 1 n []) out.new result × (result ≡ at + 1) }
 {
     endian::put_u8(out, at, n);
     at + 1
-}
-
-pub(crate) fn put_half(out: &mut [u8], at: usize, n: u16) -> usize
-    requires { at < 2 ^ 62 }
-    ensures { Wrote out.old at (be 2 n []) out.new result × (result ≡ at + 2) }
-{
-    endian::put_u16(out, at, n);
-    at + 2
 }
 
 pub(crate) fn put_word(out: &mut [u8], at: usize, n: u32) -> usize
@@ -31,70 +26,111 @@ pub(crate) fn put_word(out: &mut [u8], at: usize, n: u32) -> usize
     at + 4
 }
 
-// The `n` words from `from` on, `base` added to each.
-pub(crate) fn put_words(
-    ws: &[u32],
-    from: usize,
-    n: usize,
-    base: u32,
-    out: &mut [u8],
-    at: usize,
-) -> usize
-    requires { (from < 2 ^ 40) × (n < 2 ^ 20) × (at < 2 ^ 60) }
-    ensures { Wrote out.old at (cat (word_entry ws.now from base) n) out.new result × (result ≤ at + 4 * n) }
-{
-    let mut e = at;
-    let mut i: usize = 0;
-    while i < n {
-        let w = word(ws, from + i);
-        let v = plus(w, base);
-        e = put_word(out, e, v);
-        i += 1;
-    }
-    e
+// The output, and the place of the next byte. What lies past the end of the output is not written.
+#[derive(Drop)]
+pub(crate) struct Writer<'a> {
+    pub(crate) out: &'a mut [u8],
+    pub(crate) at: usize,
 }
 
-// The low halves of the `n` words from `from` on.
-pub(crate) fn put_halves(ws: &[u32], from: usize, n: usize, out: &mut [u8], at: usize) -> usize
-    requires { (from < 2 ^ 40) × (n < 2 ^ 20) × (at < 2 ^ 60) }
-    ensures { Wrote out.old at (cat (half_entry ws.now from) n) out.new result × (result ≤ at + 2 * n) }
-{
-    let mut e = at;
-    let mut i: usize = 0;
-    while i < n {
-        let w = word(ws, from + i);
-        e = put_half(out, e, (w % 65536) as u16);
-        i += 1;
+impl Writer<'_> {
+    pub(crate) fn byte(&mut self, n: u8)
+        requires { Room self.old 1 }
+        ensures { Puts self.old self.new (be 1 n []) 1 }
+    {
+        endian::put_u8(self.out, self.at, n);
+        self.at += 1;
     }
-    e
-}
 
-// The `n` bytes of the tree image from `from` on, byte by byte.
-fn put_each(tree: &[u8], from: usize, n: u32, out: &mut [u8], at: usize) -> usize
-    requires { at < 2 ^ 60 }
-    ensures { Wrote out.old at (cat (byte_entry tree.now from) n) out.new result × (result ≤ at + n) }
-{
-    let mut e = at;
-    let mut i: u32 = 0;
-    while i < n {
-        let b = wire::get_u8(tree, from, i);
-        e = put_byte(out, e, b);
-        i += 1;
+    pub(crate) fn half(&mut self, n: u16)
+        requires { Room self.old 2 }
+        ensures { Puts self.old self.new (be 2 n []) 2 }
+    {
+        endian::put_u16(self.out, self.at, n);
+        self.at += 2;
     }
-    e
-}
 
-// The same, in one run where they have their place.
-pub(crate) fn put_bytes(tree: &[u8], from: usize, n: u32, out: &mut [u8], at: usize) -> usize
-    requires { at < 2 ^ 60 }
-    ensures { Wrote out.old at (cat (byte_entry tree.now from) n) out.new result × (result ≤ at + n) }
-{
-    let k = n as usize;
-    if from <= tree.len() && at <= out.len() {
-        if k <= tree.len() - from && k <= out.len() - at {
-            out[at..at + k].copy_from_slice(&tree[from..from + k]);
-            return at + k;
+    pub(crate) fn word(&mut self, n: u32)
+        requires { Room self.old 4 }
+        ensures { Puts self.old self.new (be 4 n []) 4 }
+    {
+        endian::put_u32(self.out, self.at, n);
+        self.at += 4;
+    }
+
+    // The first `n` entries, one behind the other.
+    pub(crate) fn all<E: Entries>(&mut self, entries: &E, n: usize)
+        requires { (n < 2 ^ 20) × Room self.old (E.most * n) }
+        ensures { Puts self.old self.new (cat (E.bytes_of entries.now) n) (E.most * n) }
+    {
+        for i in 0..n {
+            entries.put(i, self);
         }
     }
-    put_each(tree, from, n, out, at)
+
+    // The `n` bytes of the tree image from `from` on, in one run where they have their place.
+    pub(crate) fn bytes(&mut self, tree: &[u8], from: usize, n: u8)
+        requires { Room self.old n }
+        ensures { Puts self.old self.new (cat (byte_entry tree.now from) n) n }
+    {
+        let k = n as usize;
+        let at = self.at;
+        let (size, room) = (tree.len(), self.out.len());
+        if from <= size && k <= size - from && at <= room && k <= room - at {
+            self.out[at..at + k].copy_from_slice(&tree[from..from + k]);
+            self.at += k;
+        } else {
+            self.all(&Bytes { tree, from }, k);
+        }
+    }
+}
+
+// Entries of one kind: the bytes of each, and how many it has at most.
+pub(crate) trait Entries {
+    ghost bytes_of: { Self → ℕ → List ℕ };
+
+    ghost most: { ℕ };
+
+    fn put(&self, i: usize, out: &mut Writer<'_>)
+        requires { (i < 2 ^ 20) × Room out.old most }
+        ensures { Puts out.old out.new (bytes_of self.now i) most };
+}
+
+// The words from `from` on, `base` added to each.
+#[derive(Drop)]
+pub(crate) struct Words<'a> {
+    pub(crate) ws: &'a [u32],
+    pub(crate) from: usize,
+    pub(crate) base: u32,
+    ghost near: { from < 2 ^ 40 },
+}
+
+impl Entries for Words<'_> {
+    ghost bytes_of = { λ s. word_entry s.ws.now s.from s.base };
+
+    ghost most = { 4 };
+
+    fn put(&self, i: usize, out: &mut Writer<'_>) {
+        let w = word(self.ws, self.from + i);
+        let v = plus(w, self.base);
+        out.word(v);
+    }
+}
+
+// The bytes of the tree image from `from` on.
+#[derive(Drop)]
+struct Bytes<'a> {
+    tree: &'a [u8],
+    from: usize,
+}
+
+impl Entries for Bytes<'_> {
+    ghost bytes_of = { λ s. byte_entry s.tree.now s.from };
+
+    ghost most = { 1 };
+
+    fn put(&self, i: usize, out: &mut Writer<'_>) {
+        let b = wire::get_u8(self.tree, self.from, i as u32);
+        out.byte(b);
+    }
 }

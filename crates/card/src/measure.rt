@@ -1,19 +1,11 @@
 // The sections' sizes, counted and not written, and their running sums from the back.
-ghost use Rattle.std.specs.Prelude.{◌≡◌, List, ℕ, ◌^◌, ◌≤◌, length};
-ghost use Rattle.card.specs.Image.{
-  code_section,
-  consts_section,
-  posts_section,
-  hashes_section,
-  names_section,
-  temps_section,
-  members_section,
-  stores_section,
-  calls_section,
-};
+ghost use Rattle.std.specs.Prelude.{◌≡◌, ◌+◌, ◌*◌, ◌^◌, ◌≤◌, ◌<◌, length};
+ghost use Rattle.card.specs.Written.{cat};
 ghost use Rattle.card.specs.Starts.{sums_of};
 
 use crate::Sections;
+use crate::entries::{Calls, Members, Names, Stores};
+use crate::fields::Entries;
 use workspace::layout;
 use workspace::words::word;
 
@@ -38,91 +30,57 @@ const STORE: usize = 5;
 
 const CALL: usize = 5;
 
-fn code_len(n: u16, m: u16) -> usize
-    ensures { ((ws : List ℕ) → result ≡ length (code_section ws n m)) × (result ≤ 2 ^ 40) }
-{
-    COUNT + INSTRUCTION * (n as usize + m as usize)
+// Entries of no one size.
+trait Measured: Entries {
+    // The bytes of entry `i`.
+    fn size(&self, i: usize) -> usize
+        requires { i < 2 ^ 20 }
+        ensures { (result ≡ length (Self.bytes_of self.now i)) × (result ≤ Self.most) };
 }
 
-fn consts_len(n: u16) -> usize
-    ensures { ((ws : List ℕ) → result ≡ length (consts_section ws n)) × (result ≤ 2 ^ 40) }
-{
-    COUNT + WORD * (n as usize)
-}
-
-// Slot 0 is counted too.
-fn posts_len(n: u16) -> usize
-    ensures { ((ws : List ℕ) → result ≡ length (posts_section ws n)) × (result ≤ 2 ^ 40) }
-{
-    COUNT + PAIR * (n as usize + 1)
-}
-
-fn hashes_len(n: u16) -> usize
-    ensures { ((ws : List ℕ) → result ≡ length (hashes_section ws n)) × (result ≤ 2 ^ 40) }
-{
-    COUNT + PAIR * (n as usize)
-}
-
-fn names_len(tree: &[u8], ws: &[u32], n: u16) -> usize
-    ensures { (result ≡ length (names_section tree.now ws.now n)) × (result ≤ 2 ^ 40) }
-{
-    let mut e: usize = 0;
-    let mut i: usize = 0;
-    while i < n as usize {
-        let o = word(ws, layout::NAMES + 3 * i + 2);
-        let t = wire::get_u8(tree, o as usize, 0);
-        e += NAME + t as usize;
-        i += 1;
+impl Measured for Names<'_> {
+    fn size(&self, i: usize) -> usize {
+        let o = word(self.ws, layout::NAMES + 3 * i + 2);
+        let t = wire::get_u8(self.tree, o as usize, 0);
+        NAME + usize::from(t)
     }
-    COUNT + e
 }
 
-fn temps_len(n: u16) -> usize
-    ensures { ((ws : List ℕ) → result ≡ length (temps_section ws n)) × (result ≤ 2 ^ 40) }
-{
-    COUNT + HALF * (n as usize)
-}
-
-fn members_len(tree: &[u8], ws: &[u32], n: u16) -> usize
-    ensures { (result ≡ length (members_section tree.now ws.now n)) × (result ≤ 2 ^ 40) }
-{
-    let mut e: usize = 0;
-    let mut i: usize = 0;
-    while i < n as usize {
-        let o = word(ws, layout::MEMBERS + 6 * i + 4);
-        let p = word(ws, layout::MEMBERS + 6 * i + 5);
-        let t = wire::get_u8(tree, o as usize, 0);
-        let u = wire::get_u8(tree, p as usize, 0);
-        e += MEMBER + t as usize + u as usize;
-        i += 1;
+impl Measured for Members<'_> {
+    fn size(&self, i: usize) -> usize {
+        let o = word(self.ws, layout::MEMBERS + 6 * i + 4);
+        let p = word(self.ws, layout::MEMBERS + 6 * i + 5);
+        let t = wire::get_u8(self.tree, o as usize, 0);
+        let u = wire::get_u8(self.tree, p as usize, 0);
+        MEMBER + usize::from(t) + usize::from(u)
     }
-    COUNT + e
 }
 
-fn stores_len(ws: &[u32], n: u16) -> usize
-    ensures { (result ≡ length (stores_section ws.now n)) × (result ≤ 2 ^ 40) }
-{
-    let mut e: usize = 0;
-    let mut i: usize = 0;
-    while i < n as usize {
-        let k = word(ws, layout::STORES + 4 * i + 3);
-        e += STORE + PAIR * ((k % 65536) as usize);
-        i += 1;
+impl Measured for Stores<'_> {
+    fn size(&self, i: usize) -> usize {
+        let k = word(self.ws, layout::STORES + 4 * i + 3);
+        STORE + PAIR * ((k % 65536) as usize)
     }
-    COUNT + e
 }
 
-fn calls_len(ws: &[u32], base: u16, n: u16) -> usize
-    ensures { (result ≡ length (calls_section ws.now base n)) × (result ≤ 2 ^ 40) }
-{
-    let mut e: usize = 0;
-    let mut i: usize = 0;
-    while i < n as usize {
-        let k = word(ws, layout::CALLS + 4 * i + 2);
-        e += CALL + WORD * ((k % 65536) as usize);
-        i += 1;
+impl Measured for Calls<'_> {
+    fn size(&self, i: usize) -> usize {
+        let k = word(self.ws, layout::CALLS + 4 * i + 2);
+        CALL + WORD * ((k % 65536) as usize)
     }
-    COUNT + e
+}
+
+// The bytes of the first `n` entries.
+#[tactic(auto, using(crate::proofs::Lengths::begun, crate::proofs::Lengths::more))]
+fn sizes<E: Measured>(entries: &E, n: u16) -> usize
+    requires { E.Entries.most < 2 ^ 20 }
+    ensures { (result ≡ length (cat (E.Entries.bytes_of entries.now) n)) × (result ≤ 2 ^ 20 * n) }
+{
+    let mut sum: usize = 0;
+    for i in 0..n as usize {
+        sum += entries.size(i);
+    }
+    sum
 }
 
 // The running sums of the sections' sizes, from calls to code: each ends with its section.
@@ -139,28 +97,32 @@ pub(crate) struct Sums {
     pub(crate) calls: usize,
 }
 
-// From calls to code, one section more at each step.
+// From calls to code, one section more at each step; a post stands in slot 0 too. `as` widens a count, since a proof reads through it and not through `from`.
 pub(crate) fn sums_of(tree: &[u8], ws: &[u32], c: Sections) -> Sums
     ensures { (result ≡ sums_of tree.now ws.now c) × (result.code ≤ 2 ^ 44) }
 {
-    let calls = calls_len(ws, c.code, c.calls);
-    let stores = stores_len(ws, c.stores) + calls;
-    let members = members_len(tree, ws, c.members) + stores;
-    let temps = temps_len(c.temps) + members;
-    let names = names_len(tree, ws, c.names) + temps;
-    let hashes = hashes_len(c.hashes) + names;
-    let posts = posts_len(c.posts) + hashes;
-    let consts = consts_len(c.consts) + posts;
-    let code = code_len(c.code, c.finished) + consts;
+    let starts = Calls {
+        ws,
+        base: c.code as u32,
+    };
+    let calls = COUNT + sizes(&starts, c.calls);
+    let stores = COUNT + sizes(&Stores { ws }, c.stores) + calls;
+    let members = COUNT + sizes(&Members { tree, ws }, c.members) + stores;
+    let temps = COUNT + HALF * (c.temps as usize) + members;
+    let names = COUNT + sizes(&Names { tree, ws }, c.names) + temps;
+    let hashes = COUNT + PAIR * (c.hashes as usize) + names;
+    let posts = COUNT + PAIR * (c.posts as usize + 1) + hashes;
+    let consts = COUNT + WORD * (c.consts as usize) + posts;
+    let code = COUNT + INSTRUCTION * (c.code as usize + c.finished as usize) + consts;
     Sums {
-        code: code,
-        consts: consts,
-        posts: posts,
-        hashes: hashes,
-        names: names,
-        temps: temps,
-        members: members,
-        stores: stores,
-        calls: calls,
+        code,
+        consts,
+        posts,
+        hashes,
+        names,
+        temps,
+        members,
+        stores,
+        calls,
     }
 }

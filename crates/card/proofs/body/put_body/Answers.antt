@@ -1,51 +1,24 @@
 use mathlib.Core.Path.{ap}
 use native.Mathlib.Omega.{arith}
 use Rattle.card.specs.declared.measure.Sums.{Sums}
-use Rattle.card.specs.Image.{sections_of}
+use Rattle.card.specs.Image.{sections_of, consts_section, names_section, temps_section, members_section, stores_section, calls_section}
 use Rattle.card.specs.Starts.{sums_of}
-use Rattle.card.proofs.Starts.{all_within, closed, one_more, all_nine}
+use Rattle.card.proofs.Starts.{closed, one_more, all_nine}
 use Rattle.card.proofs.body.put_body.Goals as goal
 
-pub overflow_sub-closing : goal.overflow_sub-closing
-overflow_sub-closing c = omega (arith, all_within c.args.tree.now c.args.ws.now c.args.c c.requires.0 c.requires.1)
-
-pub overflow_sub-closing-2 : goal.overflow_sub-closing-2
-overflow_sub-closing-2 c = omega (arith, all_within c.args.tree.now c.args.ws.now c.args.c c.requires.0 c.requires.1)
-
-pub overflow_sub-closing-3 : goal.overflow_sub-closing-3
-overflow_sub-closing-3 c = omega (arith, all_within c.args.tree.now c.args.ws.now c.args.c c.requires.0 c.requires.1)
-
-pub overflow_sub-closing-4 : goal.overflow_sub-closing-4
-overflow_sub-closing-4 c = omega (arith, all_within c.args.tree.now c.args.ws.now c.args.c c.requires.0 c.requires.1)
-
-pub overflow_sub-closing-5 : goal.overflow_sub-closing-5
-overflow_sub-closing-5 c = omega (arith, all_within c.args.tree.now c.args.ws.now c.args.c c.requires.0 c.requires.1)
-
-pub overflow_sub-closing-6 : goal.overflow_sub-closing-6
-overflow_sub-closing-6 c = omega (arith, all_within c.args.tree.now c.args.ws.now c.args.c c.requires.0 c.requires.1)
-
-pub overflow_sub-closing-7 : goal.overflow_sub-closing-7
-overflow_sub-closing-7 c = omega (arith, all_within c.args.tree.now c.args.ws.now c.args.c c.requires.0 c.requires.1)
-
-pub overflow_sub-closing-8 : goal.overflow_sub-closing-8
-overflow_sub-closing-8 c = omega (arith, all_within c.args.tree.now c.args.ws.now c.args.c c.requires.0 c.requires.1)
-
-pub overflow_sub-closing-9 : goal.overflow_sub-closing-9
-overflow_sub-closing-9 c = omega (arith, all_within c.args.tree.now c.args.ws.now c.args.c c.requires.0 c.requires.1)
-
 pub returns : goal.returns
-unfolding sections_of sums_of
+unfolding sections_of sums_of consts_section names_section temps_section members_section stores_section calls_section
 returns c =
     let sums = c.requires.0 in
     let end = c.requires.1 in
-    let w9 = closed _ _ _ c.put_closing.ensures.0 in
-    let w8 = one_more _ _ _ 8 (omega arith) (ap (λ (s : Sums). s.calls) sums) end w9 c.put_calls.ensures.0 in
-    let w7 = one_more _ _ _ 7 (omega arith) (ap (λ (s : Sums). s.stores) sums) end w8 c.put_stores.ensures.0 in
-    let w6 = one_more _ _ _ 6 (omega arith) (ap (λ (s : Sums). s.members) sums) end w7 c.put_members.ensures.0 in
-    let w5 = one_more _ _ _ 5 (omega arith) (ap (λ (s : Sums). s.temps) sums) end w6 c.put_temps.ensures.0 in
-    let w4 = one_more _ _ _ 4 (omega arith) (ap (λ (s : Sums). s.names) sums) end w5 c.put_names.ensures.0 in
-    let w3 = one_more _ _ _ 3 (omega arith) (ap (λ (s : Sums). s.hashes) sums) end w4 c.put_hashes.ensures.0 in
-    let w2 = one_more _ _ _ 2 (omega arith) (ap (λ (s : Sums). s.posts) sums) end w3 c.put_posts.ensures.0 in
-    let w1 = one_more _ _ _ 1 (omega arith) (ap (λ (s : Sums). s.consts) sums) end w2 c.put_consts.ensures.0 in
-    let w0 = one_more _ _ _ 0 (omega arith) (ap (λ (s : Sums). s.code) sums) end w1 c.put_code.ensures.0 in
+    let w9 = closed _ _ _ _ c.put_closing.ensures in
+    let w8 = one_more _ _ _ 8 _ (omega arith) (ap (λ (s : Sums). s.calls) sums) end w9 c.put_section.ensures in
+    let w7 = one_more _ _ _ 7 _ (omega arith) (ap (λ (s : Sums). s.stores) sums) end w8 c.put_section-2.ensures in
+    let w6 = one_more _ _ _ 6 _ (omega arith) (ap (λ (s : Sums). s.members) sums) end w7 c.put_section-3.ensures in
+    let w5 = one_more _ _ _ 5 _ (omega arith) (ap (λ (s : Sums). s.temps) sums) end w6 c.put_section-4.ensures in
+    let w4 = one_more _ _ _ 4 _ (omega arith) (ap (λ (s : Sums). s.names) sums) end w5 c.put_section-5.ensures in
+    let w3 = one_more _ _ _ 3 _ (omega arith) (ap (λ (s : Sums). s.hashes) sums) end w4 c.put_hashes.ensures in
+    let w2 = one_more _ _ _ 2 _ (omega arith) (ap (λ (s : Sums). s.posts) sums) end w3 c.put_posts.ensures in
+    let w1 = one_more _ _ _ 1 _ (omega arith) (ap (λ (s : Sums). s.consts) sums) end w2 c.put_section-6.ensures in
+    let w0 = one_more _ _ _ 0 _ (omega arith) (ap (λ (s : Sums). s.code) sums) end w1 c.put_code.ensures in
     all_nine _ _ _ end w0

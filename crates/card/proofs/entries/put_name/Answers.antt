@@ -1,8 +1,0 @@
-use native.Mathlib.Omega.{arith}
-use Rattle.card.specs.Image.{name_bytes}
-use Rattle.card.proofs.Join.{join, being}
-use Rattle.card.proofs.entries.put_name.Goals as goal
-
-pub returns : goal.returns
-unfolding name_bytes
-returns c = (being (join c.put_hash-e.ensures.0 c.put_text.ensures.0) (rw c.word-o.ensures), omega arith)
