@@ -1,9 +1,12 @@
 // Prints the listing of the tree image on standard input: each instruction as index, opcode, sub, A and B, then the closing fields; or its refusal.
 #![tactic(auto)]
 
-fn main() {
-    let mut tree = bench::input();
-    let n = io::read_full(0, &mut tree);
-    let done = bench::listing::list(&tree[..n]);
-    bench::report(done.written);
+use std::io::Read;
+
+fn main(rt: HostRuntime) {
+    let mut tree = Vec::new(rt.alloc());
+    // A read that fails ends the input.
+    let _ = rt.reader().take(bench::INPUT as u64).read_to_end(&mut tree);
+    let done = bench::listing::list(&rt, &tree);
+    let _ = bench::report(&rt, done.written);
 }
