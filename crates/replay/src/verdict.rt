@@ -36,11 +36,11 @@ pub(crate) fn next(list: &mut impl Read) -> Result<Option<Difference>, Damage> {
     let refusal = list::number(list)?;
     let mut image_room = bench::output();
     let image = list::part(list, &mut image_room)?;
-    Ok(difference(tree, refusal, image))
+    Ok(compared(tree, refusal, image))
 }
 
 // Of refusal, length and every byte the first that differs.
-fn difference(tree: &[u8], refusal: u32, image: &[u8]) -> Option<Difference> {
+fn compared(tree: &[u8], refusal: u32, image: &[u8]) -> Option<Difference> {
     let mut out = bench::output();
     let answer = bench::answer(tree, &mut out);
     let got = refusal_of(answer);
