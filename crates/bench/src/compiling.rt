@@ -31,7 +31,7 @@ fn refused(rt: &impl Eprint, number: u8) {
 }
 
 // The text of the refusal with this number.
-#[derive(Clone, Copy)]
+#[derive(Drop)]
 struct Text(u8);
 
 impl fmt::Display for Text {

@@ -15,7 +15,7 @@ const MOST: u64 = 65536;
 
 fn main(rt: HostRuntime) {
     let mut images = Vec::new(rt.alloc());
-    // A read that fails ends the input.
+    // A read that fails ends the input, and so does a lack of memory.
     let _ = rt.reader().take(MOST).read_to_end(&mut images);
     let _ = bench::report(&rt, list_all(&rt, &images));
 }
@@ -30,7 +30,7 @@ fn list_all(rt: &impl Print, images: &[u8]) -> io::Result<()> {
 }
 
 // The images of a list. One that is cut off is taken as it is, a length that is cut off filled up with zeros.
-#[derive(Clone, Copy)]
+#[derive(Drop)]
 struct Pieces<'a>(&'a [u8]);
 
 impl<'a> Iterator for Pieces<'a> {

@@ -8,7 +8,7 @@ mod verdict;
 mod words;
 
 use std::io::Read;
-use words::{Damaged, Tally};
+use words::{BadList, Tally};
 
 // The most differences that get a line; all are counted.
 const LINES: u32 = 20;
@@ -18,18 +18,18 @@ fn main(rt: HostRuntime) {
         Ok(tally) => {
             let _ = bench::report(&rt, println!(rt; "{tally}"));
         }
-        Err(damaged) => {
-            let _ = println!(rt; "{damaged}");
+        Err(bad) => {
+            let _ = println!(rt; "{bad}");
         }
     }
 }
 
 // Every tree of the list, or all before the place where the list is damaged. Nothing may stand behind the last tree.
-fn replay(rt: &impl Print, list: &mut impl Read) -> Result<Tally, Damaged> {
-    let count = list::number(list).map_err(|_| Damaged::Count)?;
+fn replay(rt: &impl Print, list: &mut impl Read) -> Result<Tally, BadList> {
+    let count = list::number(list).map_err(|_| BadList::Count)?;
     let mut agreed = 0;
     for tree in 0..count {
-        let found = verdict::next(list).map_err(|damage| Damaged::Tree(tree, damage))?;
+        let found = verdict::next(list).map_err(|damage| BadList::Tree(tree, damage))?;
         match found {
             None => agreed += 1,
             Some(difference) => {
@@ -43,6 +43,6 @@ fn replay(rt: &impl Print, list: &mut impl Read) -> Result<Tally, Damaged> {
     if list::ends(list) {
         Ok(Tally { agreed, count })
     } else {
-        Err(Damaged::End(count))
+        Err(BadList::End(count))
     }
 }

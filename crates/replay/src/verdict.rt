@@ -16,12 +16,9 @@ pub enum Difference {
 impl fmt::Display for Difference {
     fn fmt<W: fmt::Write>(&self, f: &mut fmt::Formatter<W>) -> fmt::Result {
         match self {
-            Difference::Refusal { got, expected } => write!(
-                f,
-                "refusal {got}, expected {expected}"
-            ),
-            Difference::Length { got, expected } => write!(f, "length {got}, expected {expected}"),
-            Difference::Byte { at, got, expected } => write!(
+            Self::Refusal { got, expected } => write!(f, "refusal {got}, expected {expected}"),
+            Self::Length { got, expected } => write!(f, "length {got}, expected {expected}"),
+            Self::Byte { at, got, expected } => write!(
                 f,
                 "byte {at} is {got}, expected {expected}"
             ),

@@ -20,18 +20,18 @@ impl fmt::Display for Tally {
 
 // Where a list is damaged: at the count of its trees, at a tree, or behind the last one.
 #[derive(Clone, Copy)]
-pub enum Damaged {
+pub enum BadList {
     Count,
     Tree(u32, Damage),
     End(u32),
 }
 
-impl fmt::Display for Damaged {
+impl fmt::Display for BadList {
     fn fmt<W: fmt::Write>(&self, f: &mut fmt::Formatter<W>) -> fmt::Result {
         match self {
-            Damaged::Count => write!(f, "the list is cut off before its first tree"),
-            Damaged::Tree(tree, damage) => write!(f, "tree {tree}: {damage}"),
-            Damaged::End(count) => write!(f, "the list goes on behind its {count} trees"),
+            BadList::Count => write!(f, "the list is cut off before its first tree"),
+            BadList::Tree(tree, damage) => write!(f, "tree {tree}: {damage}"),
+            BadList::End(count) => write!(f, "the list goes on behind its {count} trees"),
         }
     }
 }
