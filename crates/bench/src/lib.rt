@@ -4,7 +4,8 @@
 pub mod compiling;
 pub mod listing;
 
-ghost use Rattle.std.specs.Prelude.{◌≡◌, ◌+◌, ◌≤◌, length};
+ghost use Rattle.std.specs.Prelude.{◌≡◌, ◌+◌, ◌≤◌, length, take};
+ghost use Rattle.std.specs.Io.KnownBytes.{Consumes};
 ghost use Rattle.workspace.specs.Layout.{WORDS};
 ghost use Rattle.ast.specs.Header.{LONGEST};
 ghost use Rattle.semantics.specs.Link.{refusal_of};
@@ -15,10 +16,11 @@ ghost use Rattle.bench.specs.Answers.{answer_in, output_after};
 use ast::header;
 use codegen::Answer;
 use std::io;
+use std::io::Read;
 use workspace::layout;
 
 // One byte more than any tree image has: longer input is refused by question 2.
-pub const INPUT: usize = header::LONGEST + 1;
+const INPUT: usize = header::LONGEST + 1;
 
 const WORDS: usize = layout::WORDS;
 
@@ -51,6 +53,30 @@ fn workspace() -> [u32; WORDS]
     ensures { WORDS ≡ length result }
 {
     [0; WORDS]
+}
+
+// What `input` gives, as far as `room` goes. A read that fails ends it.
+pub fn read<'a, R: Read>(input: &mut R, room: &'a mut [u8]) -> &'a [u8]
+    ensures within { length result.now ≤ length room.old }
+    ensures bytes { Consumes (R.remaining input.old) (R.remaining input.new) result.now }
+{
+    let filled = fill(input, room);
+    &room[..filled]
+}
+
+// How many bytes of `room` are filled. Each read says how many more, so no iterator can count them.
+fn fill<R: Read>(input: &mut R, room: &mut [u8]) -> usize
+    ensures within { result ≤ length room.new }
+    ensures bytes { Consumes (R.remaining input.old) (R.remaining input.new) (take result room.new) }
+{
+    let mut filled = 0;
+    while filled < room.len() {
+        match input.read(&mut room[filled..]) {
+            Ok(0) | Err(_) => return filled,
+            Ok(n) => filled += n,
+        }
+    }
+    filled
 }
 
 // The answer to the tree image `tree`; its program image in `out` where it is accepted. Every program asks here.

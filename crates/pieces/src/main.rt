@@ -8,16 +8,14 @@ ghost use Rattle.std.specs.Prelude.{length};
 ghost use Rattle.std.specs.Iterator.{at_most};
 
 use std::io;
-use std::io::Read;
 
 // The most bytes that are taken of the input, and so the most images.
-const MOST: u64 = 65536;
+const MOST: usize = 65536;
 
 fn main(rt: HostRuntime) {
-    let mut images = Vec::new(rt.alloc());
-    // A read that fails ends the input, and so does a lack of memory.
-    let _ = rt.reader().take(MOST).read_to_end(&mut images);
-    let _ = bench::report(&rt, list_all(&rt, &images));
+    let mut room = [0; MOST];
+    let images = bench::read(&mut rt.reader(), &mut room);
+    let _ = bench::report(&rt, list_all(&rt, images));
 }
 
 // Every image under its number. It stops where standard output takes no more.
