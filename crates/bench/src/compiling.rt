@@ -1,55 +1,44 @@
 // A tree image's program image on standard output; of a refusal, one line on standard error.
 ghost use Rattle.std.specs.Prelude.{◌≡◌};
 ghost use Rattle.semantics.specs.Link.{refusal_of};
+ghost use Rattle.codegen.specs.Build.{shown};
 
-use crate::{Done, say};
+use crate::Done;
 use answers::refusals;
 use codegen::Answer;
-
-const STDOUT: i32 = 1;
-
-const STDERR: i32 = 2;
+use std::fmt;
 
 // The program image of the tree image `tree`, or why it is refused.
-pub fn compile(tree: &[u8]) -> Done
-    ensures { result.number ≡ refusal_of tree.now }
+pub fn compile(rt: &(impl Print + Eprint), tree: &[u8]) -> Done
+    ensures { (shown result.answer).number ≡ refusal_of tree.now }
 {
     let mut out = crate::output();
-    let a = crate::answer(tree, &mut out);
-    let number = crate::number_of(a);
-    let written = match a {
-        Answer::Accepted(n) => write(&out, n),
-        Answer::Refused(r) => refused(r),
+    let answer = crate::answer(tree, &mut out);
+    let written = match answer {
+        Answer::Accepted(n) => rt.write_all(&out[..n]),
+        Answer::Refused(r) => {
+            refused(rt, r);
+            Ok(())
+        }
     };
-    Done {
-        number: number,
-        written: written,
-    }
-}
-
-fn write(image: &[u8], n: usize) -> bool {
-    let first: usize = 0;
-    if n <= image.len() {
-        return io::write_all(STDOUT, &image[first..n]);
-    }
-    false
+    Done { answer, written }
 }
 
 // The refusal's number and its text. Standard output gets nothing, and all of that is written.
-fn refused(number: u8) -> bool {
-    say(b"refused ");
-    io::print_decimal(STDERR, number as u64);
-    say(b": ");
-    text(number);
-    say(b"\n");
-    true
+fn refused(rt: &impl Eprint, number: u8) {
+    let text = Text(number);
+    let _ = eprintln!(rt; "refused {number}: {text}");
 }
 
-fn text(number: u8) {
-    let mut room: [u8; 128] = [0; 128];
-    let n = refusals::put_text(number, &mut room);
-    let first: usize = 0;
-    if n <= room.len() {
-        say(&room[first..n]);
+// The text of the refusal with this number.
+#[derive(Drop)]
+struct Text(u8);
+
+impl fmt::Display for Text {
+    fn fmt<W: fmt::Write>(&self, f: &mut fmt::Formatter<W>) -> fmt::Result {
+        let mut room = [0; 128];
+        let n = refusals::put_text(self.0, &mut room);
+        let text = room.get(..n).and_then(|text| str::from_utf8(text).ok());
+        f.write_str(text.unwrap_or(""))
     }
 }

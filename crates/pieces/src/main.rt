@@ -4,59 +4,47 @@
 // a query's argument, an equality with a Hash payload, an assignment to a MemberAccessor whose payload is Entity. The stored output is the oracle's.
 #![tactic(auto)]
 
-fn main() {
-    let mut images = io::large_buffer();
-    let n = io::read_full(0, &mut images);
-    list_all(&images[..n]);
+ghost use Rattle.std.specs.Prelude.{length};
+ghost use Rattle.std.specs.Iterator.{at_most};
+
+use std::io;
+
+// The most bytes that are taken of the input, and so the most images.
+const MOST: usize = 65536;
+
+fn main(rt: HostRuntime) {
+    let mut room = [0; MOST];
+    let images = bench::read(&mut rt.reader(), &mut room);
+    let _ = bench::report(&rt, list_all(&rt, images));
 }
 
-// No input has more images than bytes.
-const MOST: u64 = 65536;
+// Every image under its number. It stops where standard output takes no more.
+fn list_all(rt: &impl Print, images: &[u8]) -> io::Result<()> {
+    for (number, image) in (1..=MOST).zip(Pieces(images)) {
+        println!(rt; "piece {number}")?;
+        bench::listing::list(rt, image).written?;
+    }
+    Ok(())
+}
 
-fn list_all(images: &[u8]) {
-    let mut at: usize = 0;
-    let mut k: u64 = 0;
-    while k < MOST {
-        if at >= images.len() {
-            return;
+// The images of a list. One that is cut off is taken as it is, a length that is cut off filled up with zeros.
+#[derive(Drop)]
+struct Pieces<'a>(&'a [u8]);
+
+impl<'a> Iterator for Pieces<'a> {
+    type Item = &'a [u8];
+
+    ghost remaining = { λ pieces. at_most (length pieces.0.now) };
+
+    fn next(&mut self) -> Option<&'a [u8]> {
+        let list = self.0;
+        if list.is_empty() {
+            return None;
         }
-        k += 1;
-        at = list_one(images, at, k);
+        let (length, rest) = list.split_at(list.len().min(4));
+        let count = wire::get_u32(length, 0, 0) as usize;
+        let (image, rest) = rest.split_at(rest.len().min(count));
+        self.0 = rest;
+        Some(image)
     }
-}
-
-// The image whose length stands at `at`, under its number; where the next begins. One that is cut off is taken as it is.
-fn list_one(images: &[u8], at: usize, k: u64) -> usize {
-    let first = past(images, at, 4);
-    let count = wire::get_u32(images, at, 0);
-    let end = past(images, first, count as usize);
-    if bench::report(title(k) && list_part(images, first, end)) {
-        return end;
-    }
-    images.len()
-}
-
-// The line above a piece; whether it was written.
-fn title(k: u64) -> bool {
-    io::write_all(1, b"piece ") && io::print_decimal(1, k) && io::write_all(1, b"\n")
-}
-
-// The place `n` bytes behind `at`, or the end.
-fn past(s: &[u8], at: usize, n: usize) -> usize {
-    if at <= s.len() {
-        if n <= s.len() - at {
-            return at + n;
-        }
-    }
-    s.len()
-}
-
-fn list_part(s: &[u8], first: usize, end: usize) -> bool {
-    if first <= end {
-        if end <= s.len() {
-            let done = bench::listing::list(&s[first..end]);
-            return done.written;
-        }
-    }
-    false
 }

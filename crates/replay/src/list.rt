@@ -1,56 +1,52 @@
-// The list on standard input, read piece by piece.
+// The list, read piece by piece.
+use std::io::Read;
+use std::{fmt, io};
 
-const STDIN: i32 = 0;
-
-#[derive(Drop)]
-pub enum Read {
-    Number(u32),
-    CutOff,
-}
-
-// The start of a room that was lent is filled, with so many bytes; or the length that the list gives is beyond it.
-#[derive(Drop)]
-pub enum Filled {
-    With(usize),
+// Why the list cannot be read on: it ends early, or a read fails; or there is no room for the length that it gives.
+#[derive(Clone, Copy)]
+pub enum Damage {
     CutOff,
     TooLong(u32),
 }
 
-// The next number.
-pub(crate) fn number() -> Read {
-    let mut b: [u8; 4] = [0; 4];
-    let n = io::read_full(STDIN, &mut b);
-    if n == 4 {
-        return Read::Number(wire::get_u32(&b, 0, 0));
+impl fmt::Display for Damage {
+    fn fmt<W: fmt::Write>(&self, f: &mut fmt::Formatter<W>) -> fmt::Result {
+        match self {
+            Damage::CutOff => write!(f, "the list is cut off"),
+            Damage::TooLong(length) => {
+                write!(
+                    f,
+                    "the list gives a length of {length}, for which there is no room"
+                )
+            }
+        }
     }
-    Read::CutOff
+}
+
+impl From<io::Error> for Damage {
+    fn from(_error: io::Error) -> Damage {
+        Damage::CutOff
+    }
+}
+
+// The next number.
+pub(crate) fn number(list: &mut impl Read) -> Result<u32, Damage> {
+    let mut bytes = [0; 4];
+    list.read_exact(&mut bytes)?;
+    Ok(u32::from_be_bytes(bytes))
 }
 
 // The next length and so many bytes.
-pub(crate) fn part(room: &mut [u8]) -> Filled {
-    let length = number();
-    match length {
-        Read::Number(n) => fill(room, n),
-        Read::CutOff => Filled::CutOff,
-    }
-}
-
-fn fill(room: &mut [u8], length: u32) -> Filled {
-    let n = length as usize;
-    if n > room.len() {
-        return Filled::TooLong(length);
-    }
-    let start: usize = 0;
-    let got = io::read_full(STDIN, &mut room[start..n]);
-    if got == n {
-        return Filled::With(n);
-    }
-    Filled::CutOff
+pub(crate) fn part<'a>(list: &mut impl Read, room: &'a mut [u8]) -> Result<&'a [u8], Damage> {
+    let length = number(list)?;
+    let part = room
+        .get_mut(..length as usize)
+        .ok_or(Damage::TooLong(length))?;
+    list.read_exact(part)?;
+    Ok(part)
 }
 
 // Whether nothing is left.
-pub(crate) fn ends() -> bool {
-    let mut b: [u8; 1] = [0; 1];
-    let n = io::read_full(STDIN, &mut b);
-    n == 0
+pub(crate) fn ends(list: &mut impl Read) -> bool {
+    list.read_exact(&mut [0]).is_err()
 }

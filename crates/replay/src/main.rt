@@ -7,39 +7,42 @@ mod list;
 mod verdict;
 mod words;
 
-use list::Read;
+use std::io::Read;
+use words::{BadList, Tally};
 
-fn main() {
-    let first = list::number();
-    match first {
-        Read::Number(count) => replay(count),
-        Read::CutOff => words::no_count(),
+// The most differences that get a line; all are counted.
+const LINES: u32 = 20;
+
+fn main(rt: HostRuntime) {
+    match replay(&rt, &mut rt.reader()) {
+        Ok(tally) => {
+            let _ = bench::report(&rt, println!(rt; "{tally}"));
+        }
+        Err(bad) => {
+            let _ = println!(rt; "{bad}");
+        }
     }
 }
 
-// Every tree of the list, or all before the place where the list is damaged.
-fn replay(count: u32) {
-    let mut agreed: u32 = 0;
-    let mut i: u32 = 0;
-    while i < count {
-        let v = verdict::next();
-        words::tell(i, i - agreed, v);
-        if verdict::damaged(v) {
-            return;
+// Every tree of the list, or all before the place where the list is damaged. Nothing may stand behind the last tree.
+fn replay(rt: &impl Print, list: &mut impl Read) -> Result<Tally, BadList> {
+    let count = list::number(list).map_err(|_| BadList::Count)?;
+    let mut agreed = 0;
+    for tree in 0..count {
+        let found = verdict::next(list).map_err(|damage| BadList::Tree(tree, damage))?;
+        match found {
+            None => agreed += 1,
+            Some(difference) => {
+                if tree - agreed < LINES {
+                    // A line that standard output does not take is left out.
+                    let _ = println!(rt; "tree {tree}: {difference}");
+                }
+            }
         }
-        if verdict::agrees(v) {
-            agreed += 1;
-        }
-        i += 1;
     }
-    close(agreed, count);
-}
-
-// Nothing may stand behind the last tree.
-fn close(agreed: u32, count: u32) {
-    if list::ends() {
-        words::close(agreed, count);
+    if list::ends(list) {
+        Ok(Tally { agreed, count })
     } else {
-        words::goes_on(count);
+        Err(BadList::End(count))
     }
 }

@@ -1,111 +1,79 @@
 // The generator's answer to the next tree of the list, held against the answer that stands there.
 use crate::list;
-use crate::list::{Filled, Read};
+use crate::list::Damage;
 use codegen::Answer;
+use std::fmt;
+use std::io::Read;
 
-// What was answered stands before what was expected.
+// What the generator answers otherwise than the list.
 #[derive(Clone, Copy)]
-pub enum Verdict {
-    Agrees,
-    Refusal(u32, u32),
-    Length(usize, usize),
-    Byte(usize, u8, u8),
-    CutOff,
-    TooLong(u32),
+pub enum Difference {
+    Refusal { got: u32, expected: u32 },
+    Length { got: usize, expected: usize },
+    Byte { at: usize, got: u8, expected: u8 },
 }
 
-pub(crate) fn agrees(v: Verdict) -> bool {
-    match v {
-        Verdict::Agrees => true,
-        _ => false,
+impl fmt::Display for Difference {
+    fn fmt<W: fmt::Write>(&self, f: &mut fmt::Formatter<W>) -> fmt::Result {
+        match self {
+            Self::Refusal { got, expected } => write!(f, "refusal {got}, expected {expected}"),
+            Self::Length { got, expected } => write!(f, "length {got}, expected {expected}"),
+            Self::Byte { at, got, expected } => write!(
+                f,
+                "byte {at} is {got}, expected {expected}"
+            ),
+        }
     }
 }
 
-// Whether the list cannot be read on from here.
-pub(crate) fn damaged(v: Verdict) -> bool {
-    match v {
-        Verdict::CutOff => true,
-        Verdict::TooLong(_) => true,
-        _ => false,
-    }
+// The difference at the next tree, if there is one.
+pub(crate) fn next(list: &mut impl Read) -> Result<Option<Difference>, Damage> {
+    let mut tree_room = bench::input();
+    let tree = list::part(list, &mut tree_room)?;
+    let refusal = list::number(list)?;
+    let mut image_room = bench::output();
+    let image = list::part(list, &mut image_room)?;
+    Ok(compared(tree, refusal, image))
 }
 
-pub(crate) fn next() -> Verdict {
-    let mut tree = bench::input();
-    let part = list::part(&mut tree);
-    match part {
-        Filled::With(n) => of_tree(first(&tree, n)),
-        Filled::CutOff => Verdict::CutOff,
-        Filled::TooLong(n) => Verdict::TooLong(n),
-    }
-}
-
-fn of_tree(tree: &[u8]) -> Verdict {
-    let refusal = list::number();
-    match refusal {
-        Read::Number(r) => of_answer(tree, r),
-        Read::CutOff => Verdict::CutOff,
-    }
-}
-
-fn of_answer(tree: &[u8], refusal: u32) -> Verdict {
-    let mut image = bench::output();
-    let part = list::part(&mut image);
-    match part {
-        Filled::With(n) => compared(tree, refusal, first(&image, n)),
-        Filled::CutOff => Verdict::CutOff,
-        Filled::TooLong(n) => Verdict::TooLong(n),
-    }
-}
-
-// The first `n` bytes of `s`; all of it where it has fewer.
-fn first<'a>(s: &'a [u8], n: usize) -> &'a [u8] {
-    let start: usize = 0;
-    if n <= s.len() {
-        return &s[start..n];
-    }
-    s
-}
-
-// Refusal, length and every byte.
-fn compared(tree: &[u8], refusal: u32, image: &[u8]) -> Verdict {
+// Of refusal, length and every byte the first that differs.
+fn compared(tree: &[u8], refusal: u32, image: &[u8]) -> Option<Difference> {
     let mut out = bench::output();
-    let a = bench::answer(tree, &mut out);
-    let r = refusal_of(a);
-    if r != refusal {
-        return Verdict::Refusal(r, refusal);
+    let answer = bench::answer(tree, &mut out);
+    let got = refusal_of(answer);
+    if got != refusal {
+        return Some(Difference::Refusal {
+            got,
+            expected: refusal,
+        });
     }
-    let n = length_of(a);
-    if n != image.len() {
-        return Verdict::Length(n, image.len());
+    let got = length_of(answer);
+    if got != image.len() {
+        return Some(Difference::Length {
+            got,
+            expected: image.len(),
+        });
     }
-    bytes(&out, image)
+    byte(&out, image)
 }
 
-fn refusal_of(a: Answer) -> u32 {
-    match a {
+fn refusal_of(answer: Answer) -> u32 {
+    match answer {
         Answer::Accepted(_) => 0,
-        Answer::Refused(r) => r as u32,
+        Answer::Refused(r) => u32::from(r),
     }
 }
 
-fn length_of(a: Answer) -> usize {
-    match a {
+fn length_of(answer: Answer) -> usize {
+    match answer {
         Answer::Accepted(n) => n,
         Answer::Refused(_) => 0,
     }
 }
 
-// The first byte of `image` that `out` has not, if there is one.
-fn bytes(out: &[u8], image: &[u8]) -> Verdict {
-    let mut i: usize = 0;
-    while i < image.len() {
-        let got = wire::get_u8(out, i, 0);
-        let expected = wire::get_u8(image, i, 0);
-        if got != expected {
-            return Verdict::Byte(i, got, expected);
-        }
-        i += 1;
-    }
-    Verdict::Agrees
+// The first byte of `image` that is another one in `out`.
+fn byte(out: &[u8], image: &[u8]) -> Option<Difference> {
+    let mut pairs = out.iter().copied().zip(image.iter().copied()).enumerate();
+    let (at, (got, expected)) = pairs.find(|(_, (got, expected))| got != expected)?;
+    Some(Difference::Byte { at, got, expected })
 }
