@@ -13,8 +13,8 @@ ghost use Rattle.semantics.specs.Room.{IMAGE_ROOM};
 ghost use Rattle.codegen.specs.Build.{shown};
 ghost use Rattle.bench.specs.Answers.{answer_in, output_after};
 
+use answers::refusals::Refusal;
 use ast::header;
-use codegen::Answer;
 use std::io;
 use std::io::Read;
 use workspace::layout;
@@ -33,7 +33,7 @@ const CLOSING: usize = 9;
 // What a program answered; and whether standard output took all that it wrote, of which nothing is known beforehand.
 #[derive(Drop)]
 pub struct Done {
-    pub answer: Answer,
+    pub answer: Result<usize, Refusal>,
     pub written: io::Result<()>,
 }
 
@@ -80,7 +80,7 @@ fn fill<R: Read>(input: &mut R, room: &mut [u8]) -> usize
 }
 
 // The answer to the tree image `tree`; its program image in `out` where it is accepted. Every program asks here.
-pub fn answer(tree: &[u8], out: &mut [u8]) -> Answer
+pub fn answer(tree: &[u8], out: &mut [u8]) -> Result<usize, Refusal>
     ensures answered { shown result ≡ answer_in tree.now (length out.old) }
     ensures output { out.new ≡ output_after tree.now out.old }
 

@@ -4,7 +4,6 @@ ghost use Rattle.semantics.specs.Link.{refusal_of};
 ghost use Rattle.codegen.specs.Build.{shown};
 
 use crate::{CLOSING, Done};
-use codegen::Answer;
 use std::io;
 
 // Where the first instruction stands in a program image, behind the image's length and the count of its instructions.
@@ -17,8 +16,8 @@ pub fn list(rt: &impl Print, tree: &[u8]) -> Done
     let mut out = crate::output();
     let answer = crate::answer(tree, &mut out);
     let written = match answer {
-        Answer::Accepted(n) => listing(rt, &out[..n]),
-        Answer::Refused(r) => println!(rt; "refused {r}"),
+        Ok(n) => listing(rt, &out[..n]),
+        Err(why) => println!(rt; "refused {}", why.number()),
     };
     Done { answer, written }
 }

@@ -1,7 +1,7 @@
 // The generator's answer to the next tree of the list, held against the answer that stands there.
 use crate::list;
 use crate::list::Damage;
-use codegen::Answer;
+use answers::refusals::Refusal;
 use std::fmt;
 use std::io::Read;
 
@@ -47,7 +47,7 @@ fn compared(tree: &[u8], refusal: u32, image: &[u8]) -> Option<Difference> {
             expected: refusal,
         });
     }
-    let got = length_of(answer);
+    let got = answer.unwrap_or(0);
     if got != image.len() {
         return Some(Difference::Length {
             got,
@@ -57,17 +57,11 @@ fn compared(tree: &[u8], refusal: u32, image: &[u8]) -> Option<Difference> {
     byte(&out, image)
 }
 
-fn refusal_of(answer: Answer) -> u32 {
+// The refusal's number; 0 where the tree is accepted.
+fn refusal_of(answer: Result<usize, Refusal>) -> u32 {
     match answer {
-        Answer::Accepted(_) => 0,
-        Answer::Refused(r) => u32::from(r),
-    }
-}
-
-fn length_of(answer: Answer) -> usize {
-    match answer {
-        Answer::Accepted(n) => n,
-        Answer::Refused(_) => 0,
+        Ok(_) => 0,
+        Err(why) => u32::from(why.number()),
     }
 }
 
