@@ -1,4 +1,4 @@
--- Where a `let .. else` or a `match` has not bound a kind of payload or of a ForEach variable, the tag is one of the others'. Assumes nothing.
+-- Where a `let .. else` or a `match` has not bound a kind of payload the tag is one of the others'. Assumes nothing.
 use mathlib.Core.Path.{◌≡◌, refl}
 use mathlib.Core.List.{List, [], ◌∷◌}
 use Prim.Native.Nat.{ℕ}
@@ -9,9 +9,6 @@ use Rattle.payload.specs.declared.QueryRef.{QueryRef}
 use Rattle.payload.specs.declared.Payload.{Payload}
 use Rattle.payload.specs.declared.Payload.TheVariants.{None, Float, Hash, Context, Entity, Temp, Member, ArrayVariable, Geometry, Material, Texture, Query, HostMath}
 use Rattle.payload.specs.contracts.Payload.{the_type}
-use Rattle.lowering.specs.declared.control.EachIndex.{EachIndex}
-use Rattle.lowering.specs.declared.control.EachIndex.TheVariants.{Name as Var, Temp as Local, Refused}
-use Rattle.lowering.specs.contracts.control.EachIndex as index
 
 abbrev not_member : List ℕ
 not_member = 0 ∷ 1 ∷ 2 ∷ 3 ∷ 4 ∷ 5 ∷ 7 ∷ 8 ∷ 9 ∷ 10 ∷ 11 ∷ 12 ∷ []
@@ -84,8 +81,3 @@ but_math (Material n) e = hit not_math 9 tt
 but_math (Texture n) e = hit not_math 10 tt
 but_math (Query q) e = hit not_math 11 tt
 but_math (HostMath m) e = absurd (e m refl)
-
-pub but_refused : (v : EachIndex) → (v ≡ Refused → ⊥) → OneOf (0 ∷ 1 ∷ []) (tag_of index.the_type v)
-but_refused (Var n) e = hit (0 ∷ 1 ∷ []) 0 tt
-but_refused (Local n) e = hit (0 ∷ 1 ∷ []) 1 tt
-but_refused Refused e = absurd (e refl)

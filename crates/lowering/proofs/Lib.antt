@@ -8,7 +8,6 @@ pub mod Missed
 pub mod Laws
 pub mod Paths
 pub mod Variants
-pub mod Refused
 pub mod Handlers
 pub mod Levels
 pub mod Absent

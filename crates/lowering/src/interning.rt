@@ -13,7 +13,7 @@ use program::{ConstIdx, Flags, HashIdx, MemberIdx, NameIdx, PostIdx, TempIdx};
 use workspace::words::{high, low};
 
 // A constant, by its bits.
-#[tactic(auto, unfolding(crate::specs::Pools::konst))]
+#[tactic(auto, unfolding(crate::specs::Pools::konst, crate::specs::Regions::interned))]
 pub(crate) fn konst(b: &mut Builder<'_>, bits: u32) -> ConstIdx
     ensures { Gave b.old b.new result.0 (konst bits) }
 {
@@ -22,7 +22,7 @@ pub(crate) fn konst(b: &mut Builder<'_>, bits: u32) -> ConstIdx
     ConstIdx(u32::from(i.index))
 }
 
-#[tactic(auto, unfolding(crate::specs::Pools::hash))]
+#[tactic(auto, unfolding(crate::specs::Pools::hash, crate::specs::Regions::interned))]
 pub(crate) fn hash(b: &mut Builder<'_>, h: u64) -> HashIdx
     ensures { Gave b.old b.new result.0 (hash h) }
 {
@@ -39,7 +39,7 @@ fn text_place(at: usize) -> u32
 }
 
 // A name, by its hash; the first text stays.
-#[tactic(auto, unfolding(crate::specs::Pools::name))]
+#[tactic(auto, unfolding(crate::specs::Pools::name, crate::specs::Regions::interned))]
 pub(crate) fn name(b: &mut Builder<'_>, n: NameRef) -> NameIdx
     ensures { Gave b.old b.new result.0 (name n) }
 {
@@ -50,7 +50,7 @@ pub(crate) fn name(b: &mut Builder<'_>, n: NameRef) -> NameIdx
 }
 
 // A member, by its own hash and the last one of its path.
-#[tactic(auto, unfolding(crate::specs::Pools::member))]
+#[tactic(auto, unfolding(crate::specs::Pools::member, crate::specs::Regions::interned))]
 pub(crate) fn member(b: &mut Builder<'_>, own: NameRef, last: NameRef) -> MemberIdx
     ensures { Gave b.old b.new result.0 (member own last) }
 {
@@ -68,7 +68,7 @@ pub(crate) fn member(b: &mut Builder<'_>, own: NameRef, last: NameRef) -> Member
 }
 
 // The slot of a temp, by its name.
-#[tactic(auto, unfolding(crate::specs::Pools::slot))]
+#[tactic(auto, unfolding(crate::specs::Pools::slot, crate::specs::Regions::interned))]
 fn slot(b: &mut Builder<'_>, named: NameIdx) -> TempIdx
     ensures { Gave b.old b.new result.0 (slot named.0) }
 {
@@ -78,7 +78,7 @@ fn slot(b: &mut Builder<'_>, named: NameIdx) -> TempIdx
 }
 
 // A post, looked up by its bit patterns, which go beside it since no float keeps a NaN's; the identity is slot 0 and is not looked up.
-#[tactic(auto, unfolding(crate::specs::Pools::post))]
+#[tactic(auto, unfolding(crate::specs::Pools::post, crate::specs::Regions::interned))]
 pub(crate) fn post_of(b: &mut Builder<'_>, p: PostOp, bits: PostBits) -> PostIdx
     requires { p ≡ post_of (patterns bits) }
     ensures { Gave b.old b.new result.0 (post (patterns bits)) }
