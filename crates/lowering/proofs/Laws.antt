@@ -16,10 +16,7 @@ use Rattle.builder.specs.Steps.{Held, emitted, failed, flushed}
 use Rattle.lowering.specs.Pools as B
 use Rattle.lowering.specs.Pools.{Found}
 use Rattle.builder.specs.Segments.{breaks_resolved, closed}
-use Rattle.lowering.specs.declared.control.EachVariable.{EachVariable}
-use Rattle.lowering.specs.declared.control.EachIndex.TheVariants.{Refused}
 use Rattle.lowering.specs.Parts.{Step, going, place, argument_closed, emit_jump, front, instr}
-use Rattle.lowering.specs.Rules.{no_variable}
 
 -- f goes on with the entry that is the definition's
 pub gone : (f : ℕ → Step) {r : Held} {e g : Found} → e ≡ g → r ≡ going e f → r ≡ going g f
@@ -43,10 +40,6 @@ same_entry i e f = λ j. (record { state = e j; index = i }, f j)
 
 pub same_held : {s t : State} {u v : List ℕ} → s ≡ t → u ≡ v → ◌≡◌ {A = Held} (s, u) (t, v)
 same_held e f = λ j. (e j, f j)
-
-pub refused_variable : {g : Held} (h : Held) → g ≡ failed Refusal.Failed h → ◌≡◌ {A = EachVariable × List ℕ} (record { state = g.0; index = Refused }, g.1) (no_variable h)
-unfolding no_variable
-refused_variable h e = λ j. (record { state = (e j).0; index = Refused }, (e j).1)
 
 pub aim_all : (s : State) (w : List ℕ) {u : List ℕ} {a b x y m n : ℕ} → u ≡ breaks_resolved s a x m w → a ≡ b → x ≡ y → m ≡ n → u ≡ breaks_resolved s b y n w
 aim_all s w e f g h = e ∙ (λ j. breaks_resolved s (f j) (g j) (h j) w)

@@ -44,6 +44,7 @@ fn no_path() -> PathEnd
     }
 }
 
+#[tactic(auto, using(crate::proofs::Paths::end_zero, crate::proofs::Paths::end_more), unfolding(crate::specs::Payloads::as_name, crate::specs::Payloads::cases))]
 fn path_end(t: &Tree<'_>, at: usize, levels: u16) -> PathEnd
     ensures { result ≡ R.path_end t.now.image.now levels at }
 {
@@ -80,6 +81,7 @@ fn add_path(b: &mut Builder<'_>, hash: u64)
 }
 
 // The path's hashes, from the root outwards.
+#[tactic(auto, using(crate::proofs::Paths::hashes_zero, crate::proofs::Paths::hashes_more), unfolding(crate::specs::Payloads::as_name, crate::specs::Payloads::cases))]
 fn path_hashes(t: &Tree<'_>, b: &mut Builder<'_>, at: usize, levels: u16)
     ensures { Did b.old b.new (R.path_hashes t.now.image.now levels at) }
 {

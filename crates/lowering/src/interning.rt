@@ -1,5 +1,6 @@
 // Interning of constants, posts, hashes, names, temps and members: each gives the entry's index, in its kind.
 ghost use Rattle.std.specs.Prelude.{◌≡◌};
+ghost use Rattle.numeric.specs.Post.{is_identity};
 ghost use Rattle.numeric.specs.PostOp.{patterns, post_of};
 ghost use Rattle.builder.specs.Done.{Did};
 ghost use Rattle.lowering.specs.Done.{Gave};
@@ -77,13 +78,21 @@ fn slot(b: &mut Builder<'_>, named: NameIdx) -> TempIdx
     TempIdx(i.index)
 }
 
+// Whether a post is the identity: the test of its floats is that of their patterns.
+pub(crate) fn is_identity(p: PostOp, bits: PostBits) -> bool
+    requires { p ≡ post_of (patterns bits) }
+    ensures { result ≡ is_identity (patterns bits) }
+{
+    p.is_identity()
+}
+
 // A post, looked up by its bit patterns, which go beside it since no float keeps a NaN's; the identity is slot 0 and is not looked up.
 #[tactic(auto, unfolding(crate::specs::Pools::post, crate::specs::Regions::interned))]
 pub(crate) fn post_of(b: &mut Builder<'_>, p: PostOp, bits: PostBits) -> PostIdx
     requires { p ≡ post_of (patterns bits) }
     ensures { Gave b.old b.new result.0 (post (patterns bits)) }
 {
-    if p.is_identity() {
+    if is_identity(p, bits) {
         return PostIdx::PLAIN;
     }
     let i = regions::POSTS.intern(b.words, b.state.posts, &[bits.scale, bits.offset]);

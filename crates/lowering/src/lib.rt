@@ -451,6 +451,7 @@ fn mul(t: &Tree<'_>, b: &mut Builder<'_>, at: usize, looping: bool, levels: u16)
     pop(b, 1);
 }
 
+#[tactic(auto, unfolding(program::specs::Image::bit))]
 fn divisor(tree: &[u8]) -> Divisor
     ensures { divisor_of result ≡ bit (eqb (be8 tree.now 0 6) 1) }
 {

@@ -1,5 +1,6 @@
 // Parts of rules: an instruction, the node's post, an instruction whose target comes later.
 ghost use Rattle.std.specs.Prelude.{◌≡◌};
+ghost use Rattle.numeric.specs.PostOp.{patterns};
 ghost use Rattle.program.specs.Opcodes.{number_of};
 ghost use Rattle.builder.specs.Done.{Did};
 ghost use Rattle.lowering.specs.Done.{Gave};
@@ -27,14 +28,21 @@ pub(crate) fn instr(b: &mut Builder<'_>, op: Opcode, sub: u8, a: u32, post: Post
     b.put(front(op, sub, post.0), a);
 }
 
+// The patterns of the node's post.
+fn bits_at(t: &Tree<'_>, at: usize) -> PostBits
+    ensures { patterns result ≡ post_bits t.now.image.now at }
+{
+    PostBits {
+        scale: tree::scale_at(t.image, at),
+        offset: tree::offset_at(t.image, at),
+    }
+}
+
 // The slot of the node's post.
 pub(crate) fn post(t: &Tree<'_>, b: &mut Builder<'_>, at: usize) -> PostIdx
     ensures { Gave b.old b.new result.0 (B.post (post_bits t.now.image.now at)) }
 {
-    let bits = PostBits {
-        scale: tree::scale_at(t.image, at),
-        offset: tree::offset_at(t.image, at),
-    };
+    let bits = bits_at(t, at);
     interning::post_of(b, PostOp::of_bits(bits.scale, bits.offset), bits)
 }
 
@@ -52,8 +60,8 @@ pub(crate) fn put_post(t: &Tree<'_>, b: &mut Builder<'_>, at: usize, op: Opcode,
 pub(crate) fn post_instr(t: &Tree<'_>, b: &mut Builder<'_>, at: usize)
     ensures { Did b.old b.new (post_instr t.now.image.now at) }
 {
-    let p = PostOp::of_bits(tree::scale_at(t.image, at), tree::offset_at(t.image, at));
-    if p.is_identity() {
+    let bits = bits_at(t, at);
+    if interning::is_identity(PostOp::of_bits(bits.scale, bits.offset), bits) {
         b.flush();
         return;
     }

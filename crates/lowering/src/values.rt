@@ -67,6 +67,7 @@ fn resource_hash(p: Payload) -> u64
 }
 
 // The node's post folded into a constant.
+#[tactic(auto, using(numeric::proofs::Identity::fold_is))]
 pub(crate) fn folded(t: &Tree<'_>, at: usize, raw: u32) -> u32
     ensures { result ≡ fold (post_bits t.now.image.now at) raw }
 {
