@@ -25,17 +25,14 @@ use Rattle.builder.specs.Steps.{Held, failed, pushed}
 use Rattle.lowering.specs.Pools as B
 use Rattle.lowering.specs.Pools.{Found, after, constant}
 use Rattle.builder.specs.Segments.{opened}
-use Rattle.lowering.specs.declared.control.EachVariable.{EachVariable}
-use Rattle.lowering.specs.declared.control.EachIndex.TheVariants.{Refused}
+use Rattle.lowering.specs.declared.control.EachIndex.{EachIndex}
+use Rattle.lowering.specs.Leaves.{EachVariable}
 use Rattle.lowering.specs.Payloads.{cases, as_name, as_math, as_query, const_of}
 use Rattle.lowering.specs.Steps.{operand_entered, popped, loop_entered, loop_left, handler_entered, handler_left, flagged, not_float_only, queried}
 use Rattle.lowering.specs.Parts.{Step, instr, post_bits, put_post, post_instr, emit_jump, place_target, loop_closed, each_closed, call_begun, argument_closed}
 use Rattle.lowering.specs.Parts.{each_next}
 use Rattle.lowering.specs.Rules.{rule, payload, member_put, array_put, store, target_refusal, compare_const, equal_const, variable, array_element, chained, member_read, arguments, called, query, binary, compare, equal, operands, logic, coalesce, alternative, conditional, statement, statements_from, statements, ret, counted_loop, each, for_each, value, assignment, pointer, bracket, unary, terms, add, mul, div, host_arguments, host_math}
-use Rattle.lowering.proofs.Others.{not_member}
-use Rattle.lowering.proofs.Variants.{no_array, no_query, no_math}
-use Rattle.lowering.proofs.Refused.{is_refused_lem, not_refused}
-use Rattle.lowering.specs.contracts.control.EachIndex as index
+use Rattle.lowering.proofs.Variants.{no_member, no_array, no_query, no_math}
 
 module _ (t : List ℕ) (E : ℕ → Bool → Step) (C : ℕ → NameRef → Bool → Step) (R : ℕ → Bool → Step) (p : ℕ) (l : Bool) (h : Held) where
   -- ---- values
@@ -58,7 +55,7 @@ module _ (t : List ℕ) (E : ℕ → Bool → Step) (C : ℕ → NameRef → Boo
 
   pub member_other : {y : Payload} {s1 s2 : State} {g : Held} → s1 ≡ not_float_only h.0 → s2 ≡ flagged 16 s1 → y ≡ payload t p → OneOf (0 ∷ 1 ∷ 2 ∷ 3 ∷ 4 ∷ 5 ∷ 7 ∷ 8 ∷ 9 ∷ 10 ∷ 11 ∷ 12 ∷ []) (tag_of the_type y) → g ≡ failed Refusal.Failed (s2, h.1) → g ≡ member_read t E C R p l h
   unfolding member_read
-  member_other e1 e2 ey o e = rw (e, e2, e1) (not_member _ _ ey o)
+  member_other {y = y} e1 e2 ey o e = rw (← ey, no_member y _ _ o, e, e2, e1)
 
   pub member_none : {k : ℕ} {y : Payload} {n : NameRef} {s1 s2 : State} {g : Held} → s1 ≡ not_float_only h.0 → s2 ≡ flagged 16 s1 → y ≡ payload t p → y ≡ Member n → k ≡ count_at t p → k ≡ 0 → g ≡ failed Refusal.Failed (s2, h.1) → g ≡ member_read t E C R p l h
   unfolding member_read chained as_name cases
@@ -269,13 +266,13 @@ module _ (t : List ℕ) (E : ℕ → Bool → Step) (C : ℕ → NameRef → Boo
   unfolding for_each
   each_few e1 e2 ek z e = rw (← ek, lt-ltb _ _ z, e, e2, e1)
 
-  pub each_none : {k a : ℕ} {s1 s2 : State} {y : EachVariable × List ℕ} → s1 ≡ flagged 64 h.0 → s2 ≡ not_float_only s1 → k ≡ count_at t p → 3 ≤ k → a ≡ first_at t p → y ≡ variable t a (s2, h.1) → y.0.index ≡ Refused → ◌≡◌ {A = Held} (y.0.state, y.1) (for_each t E C R p l h)
+  pub each_none : {k a : ℕ} {s1 s2 : State} {y : EachVariable × List ℕ} → s1 ≡ flagged 64 h.0 → s2 ≡ not_float_only s1 → k ≡ count_at t p → 3 ≤ k → a ≡ first_at t p → y ≡ variable t a (s2, h.1) → y.0.index ≡ None → ◌≡◌ {A = Held} (y.0.state, y.1) (for_each t E C R p l h)
   unfolding for_each
-  each_none e1 e2 ek z ea ey n = rw (← ek, le-ltb _ _ z, ← ea, ← e1, ← e2, ← ey, is_refused_lem _ n)
+  each_none e1 e2 ek z ea ey n = rw (← ek, le-ltb _ _ z, ← ea, ← e1, ← e2, ← ey, n)
 
-  pub each_some : {k a : ℕ} {s1 s2 : State} {y : EachVariable × List ℕ} {g : Held} → s1 ≡ flagged 64 h.0 → s2 ≡ not_float_only s1 → k ≡ count_at t p → 3 ≤ k → a ≡ first_at t p → y ≡ variable t a (s2, h.1) → OneOf (0 ∷ 1 ∷ []) (tag_of index.the_type y.0.index) → g ≡ each t E C R p (each_next y.0.index) l (y.0.state, y.1) → g ≡ for_each t E C R p l h
+  pub each_some : {k a : ℕ} {i : EachIndex} {s1 s2 : State} {y : EachVariable × List ℕ} {g : Held} → s1 ≡ flagged 64 h.0 → s2 ≡ not_float_only s1 → k ≡ count_at t p → 3 ≤ k → a ≡ first_at t p → y ≡ variable t a (s2, h.1) → y.0.index ≡ Some i → g ≡ each t E C R p (each_next i) l (y.0.state, y.1) → g ≡ for_each t E C R p l h
   unfolding for_each
-  each_some e1 e2 ek z ea ey n e = rw (← ek, le-ltb _ _ z, ← ea, ← e1, ← e2, ← ey, not_refused _ n) e
+  each_some e1 e2 ek z ea ey n e = rw (← ek, le-ltb _ _ z, ← ea, ← e1, ← e2, ← ey, n) e
 
   pub each_all : (next : Held → Found) {a b d v : ℕ} {s1 s2 : State} {x y : Found} {h1 h2 h3 h4 : Held} → a ≡ first_at t p → b ≡ next_at t a → h1 ≡ E b l h → x ≡ emit_jump 43 0 0 h1 → y ≡ next (x.0.state, x.1) → s1 ≡ loop_entered y.0.state → d ≡ next_at t b → h2 ≡ E d true (s1, y.1) → h3 ≡ each_closed x.0.index y.0.index h2 → s2 ≡ loop_left h3.0 → v ≡ fold (post_bits t p) 0 → h4 ≡ constant v (s2, h3.1) → h4 ≡ each t E C R p next l h
   unfolding each

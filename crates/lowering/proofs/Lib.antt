@@ -1,11 +1,7 @@
 pub mod Hits
 pub mod Skipped
 pub mod Slots
-pub mod Entered
-pub mod Choice
-pub mod Others
 pub mod Missed
-pub mod Laws
 pub mod Paths
 pub mod Variants
 pub mod Handlers

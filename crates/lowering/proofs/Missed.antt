@@ -13,5 +13,6 @@ None [] r = Unit {0}
 None (e ∷ l) r = None l r × (r ≡ e.0 → ⊥)
 
 pub missed : (l : List (ℕ × Held)) (r : ℕ) (d : Held) → None l r → among l r d ≡ d
+unfolding among
 missed [] r d n = refl
 missed (e ∷ l) r d n = ap (λ (t : Bool). cond t e.1 (among l r d)) (ne_eqb r e.0 n.1) ∙ missed l r d n.0

@@ -1,5 +1,5 @@
 -- A member path at no level and at one more, as the test of its levels tells. Assumes nothing.
-use mathlib.Core.Path.{◌≡◌, refl, sym, ap, ◌∙◌}
+use mathlib.Core.Path.{◌≡◌, refl, ap}
 use mathlib.Core.Bool.{true, cond}
 use mathlib.Core.List.{List}
 use Prim.Native.Nat.{ℕ, zero, suc, ◌-◌}
@@ -7,8 +7,6 @@ use native.Mathlib.Numerals.{sub-one}
 use lib.Dec.{eqb}
 use Rattle.ast.specs.Node.{count_at, first_at}
 use Rattle.builder.specs.Steps.{Held}
-use Rattle.lowering.specs.Pools.{after}
-use Rattle.lowering.specs.declared.assign.PathEnd.{PathEnd}
 use Rattle.lowering.specs.Payloads.{as_name}
 use Rattle.lowering.specs.Parts.{path_added}
 use Rattle.lowering.specs.Rules.{no_path, payload, is_link, longer, path_end, path_hashes}
@@ -32,9 +30,3 @@ pub hashes_more : (t : List ℕ) (n p : ℕ) (h : Held) → (n ≡ 0 → ⊥)
 unfolding path_hashes
 hashes_more t zero p h e = absurd (e refl)
 hashes_more t (suc n) p h e = rw (sub-one (suc n))
-
-pub more_links : (t : List ℕ) (n : ℕ) {p q m : ℕ} {e : PathEnd} → e ≡ path_end t n p → p ≡ q → m ≡ after e.count → ◌≡◌ {A = PathEnd} (record { fine = e.fine; root = e.root; count = m }) (longer t (path_end t n q))
-more_links t n {p} {q} {m} {e} f g h =
-    let a : e ≡ path_end t n q = f ∙ ap (λ (x : ℕ). path_end t n x) g in
-    let b : m ≡ after (path_end t n q).count = h ∙ ap (λ (x : PathEnd). after x.count) a in
-    λ j. record { fine = (a j).fine; root = (a j).root; count = b j }

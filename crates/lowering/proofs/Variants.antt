@@ -10,6 +10,22 @@ use Rattle.payload.specs.declared.Payload.TheVariants.{None, Float, Hash, Contex
 use Rattle.payload.specs.contracts.Payload.{the_type}
 use Rattle.lowering.specs.Payloads.{cases, as_name, as_math, as_query}
 
+pub no_member : {X : Type 0} (v : Payload) (d : X) (f : NameRef → X) → OneOf (0 ∷ 1 ∷ 2 ∷ 3 ∷ 4 ∷ 5 ∷ 7 ∷ 8 ∷ 9 ∷ 10 ∷ 11 ∷ 12 ∷ []) (tag_of the_type v) → as_name 6 v d f ≡ d
+unfolding as_name cases
+no_member None d f k = refl
+no_member (Float b) d f k = refl
+no_member (Hash h) d f k = refl
+no_member (Context n) d f k = refl
+no_member (Entity n) d f k = refl
+no_member (Temp n) d f k = refl
+no_member (Member n) d f k = absurd (miss (0 ∷ 1 ∷ 2 ∷ 3 ∷ 4 ∷ 5 ∷ 7 ∷ 8 ∷ 9 ∷ 10 ∷ 11 ∷ 12 ∷ []) 6 tt k)
+no_member (ArrayVariable n) d f k = refl
+no_member (Geometry n) d f k = refl
+no_member (Material n) d f k = refl
+no_member (Texture n) d f k = refl
+no_member (Query q) d f k = refl
+no_member (HostMath m) d f k = refl
+
 pub no_array : {X : Type 0} (v : Payload) (d : X) (f : NameRef → X) → OneOf (0 ∷ 1 ∷ 2 ∷ 3 ∷ 4 ∷ 5 ∷ 6 ∷ 8 ∷ 9 ∷ 10 ∷ 11 ∷ 12 ∷ []) (tag_of the_type v) → as_name 7 v d f ≡ d
 unfolding as_name cases
 no_array None d f k = refl

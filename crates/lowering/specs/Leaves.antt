@@ -28,7 +28,7 @@ use Rattle.lowering.specs.Parts.{post_bits, with_post, put_post, jump_out}
 use Rattle.lowering.specs.Parts.{path_added, store_added}
 
 -- the value of the first key that is r, and d where none is
-abbrev pub among : List (ℕ × Held) → ℕ → Held → Held
+unfoldable pub among : List (ℕ × Held) → ℕ → Held → Held
 among [] r d = d
 among (e ∷ l) r d = cond (eqb r e.0) e.1 (among l r d)
 
@@ -247,5 +247,5 @@ module _ (t : List ℕ) where
       ∷ (Operator.ARRAY_VARIABLE, failed Refusal.UsesArrays h)
       ∷ []
 
-  abbrev pub leaf : ℕ → Bool → ℕ → Step
+  unfoldable pub leaf : ℕ → Bool → ℕ → Step
   leaf p l r h = among (leaves p l h) r (failed Refusal.Failed h)

@@ -96,6 +96,7 @@ fn start() -> State
 }
 
 // A rule without operands, or the refusal of any other.
+#[tactic(auto, unfolding(crate::specs::Leaves::leaf, crate::specs::Leaves::among))]
 fn leaf(t: &Tree<'_>, b: &mut Builder<'_>, at: usize, looping: bool, rule: u8)
     ensures { Did b.old b.new (R.leaf t.now.image.now at looping rule) }
 {

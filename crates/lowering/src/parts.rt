@@ -29,7 +29,7 @@ pub(crate) fn instr(b: &mut Builder<'_>, op: Opcode, sub: u8, a: u32, post: Post
 }
 
 // The patterns of the node's post.
-fn bits_at(t: &Tree<'_>, at: usize) -> PostBits
+pub(crate) fn bits_at(t: &Tree<'_>, at: usize) -> PostBits
     ensures { patterns result ≡ post_bits t.now.image.now at }
 {
     PostBits {

@@ -11,7 +11,7 @@ ghost use Rattle.lowering.specs.Rules as R;
 
 use crate::image::Tree;
 use crate::interning;
-use crate::parts::{instr, post, put_post};
+use crate::parts::{bits_at, instr, post, put_post};
 use crate::steps::{flag, not_float_only};
 use answers::refusals::Refusal;
 use builder::Builder;
@@ -67,12 +67,11 @@ fn resource_hash(p: Payload) -> u64
 }
 
 // The node's post folded into a constant.
-#[tactic(auto, using(numeric::proofs::Identity::fold_is))]
 pub(crate) fn folded(t: &Tree<'_>, at: usize, raw: u32) -> u32
     ensures { result ≡ fold (post_bits t.now.image.now at) raw }
 {
-    let p = PostOp::of_bits(tree::scale_at(t.image, at), tree::offset_at(t.image, at));
-    p.fold(raw)
+    let bits = bits_at(t, at);
+    PostOp::of_bits(bits.scale, bits.offset).fold(raw)
 }
 
 // The constant behind a statement list: its offset alone.
