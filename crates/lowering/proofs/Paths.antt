@@ -11,22 +11,22 @@ use Rattle.lowering.specs.Payloads.{as_name}
 use Rattle.lowering.specs.Parts.{path_added}
 use Rattle.lowering.specs.Rules.{no_path, payload, is_link, longer, path_end, path_hashes}
 
-pub end_zero : (t : List ℕ) (n p : ℕ) → n ≡ 0 → path_end t n p ≡ no_path
+pub no_end : (t : List ℕ) (n p : ℕ) → n ≡ 0 → path_end t n p ≡ no_path
 unfolding path_end
-end_zero t n p e = ap (λ (m : ℕ). path_end t m p) e
+no_end t n p e = ap (λ (m : ℕ). path_end t m p) e
 
-pub end_more : (t : List ℕ) (n p : ℕ) → (n ≡ 0 → ⊥)
+pub an_end : (t : List ℕ) (n p : ℕ) → (n ≡ 0 → ⊥)
     → path_end t n p ≡ cond (is_link t p) (as_name 6 (payload t p) no_path (λ m. cond (eqb (count_at t p) 0) no_path (longer t (path_end t (n - 1) (first_at t p))))) (record { fine = true; root = p; count = 0 })
 unfolding path_end
-end_more t zero p e = absurd (e refl)
-end_more t (suc n) p e = rw (sub-one (suc n))
+an_end t zero p e = absurd (e refl)
+an_end t (suc n) p e = rw (sub-one (suc n))
 
-pub hashes_zero : (t : List ℕ) (n p : ℕ) (h : Held) → n ≡ 0 → path_hashes t n p h ≡ h
+pub no_hash : (t : List ℕ) (n p : ℕ) (h : Held) → n ≡ 0 → path_hashes t n p h ≡ h
 unfolding path_hashes
-hashes_zero t n p h e = ap (λ (m : ℕ). path_hashes t m p h) e
+no_hash t n p h e = ap (λ (m : ℕ). path_hashes t m p h) e
 
-pub hashes_more : (t : List ℕ) (n p : ℕ) (h : Held) → (n ≡ 0 → ⊥)
+pub a_hash : (t : List ℕ) (n p : ℕ) (h : Held) → (n ≡ 0 → ⊥)
     → path_hashes t n p h ≡ cond (is_link t p) (as_name 6 (payload t p) h (λ m. path_added m.hash (path_hashes t (n - 1) (first_at t p) h))) h
 unfolding path_hashes
-hashes_more t zero p h e = absurd (e refl)
-hashes_more t (suc n) p h e = rw (sub-one (suc n))
+a_hash t zero p h e = absurd (e refl)
+a_hash t (suc n) p h e = rw (sub-one (suc n))

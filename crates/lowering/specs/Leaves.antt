@@ -38,10 +38,10 @@ pub record EachVariable : Type 0 where
   pub index : Option EachIndex
 
 -- one that is refused, and one that is interned, as a name or as a temp
-unfoldable pub no_variable : Held → EachVariable × List ℕ
+abbrev pub no_variable : Held → EachVariable × List ℕ
 no_variable h = let g = failed Refusal.Failed h in (record { state = g.0; index = None }, g.1)
 
-unfoldable pub variable_of : (ℕ → EachIndex) → Found → EachVariable × List ℕ
+abbrev pub variable_of : (ℕ → EachIndex) → Found → EachVariable × List ℕ
 variable_of kind e = (record { state = e.0.state; index = Some (kind e.0.index) }, e.1)
 
 abbrev pub name_kind : ℕ → EachIndex

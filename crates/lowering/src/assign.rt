@@ -44,7 +44,7 @@ fn no_path() -> PathEnd
     }
 }
 
-#[tactic(auto, using(crate::proofs::Paths::end_zero, crate::proofs::Paths::end_more), unfolding(crate::specs::Payloads::as_name, crate::specs::Payloads::cases))]
+#[tactic(auto, using(crate::proofs::Paths::no_end, crate::proofs::Paths::an_end), unfolding(crate::specs::Payloads::as_name, crate::specs::Payloads::cases))]
 fn path_end(t: &Tree<'_>, at: usize, levels: u16) -> PathEnd
     ensures { result ≡ R.path_end t.now.image.now levels at }
 {
@@ -81,7 +81,7 @@ fn add_path(b: &mut Builder<'_>, hash: u64)
 }
 
 // The path's hashes, from the root outwards.
-#[tactic(auto, using(crate::proofs::Paths::hashes_zero, crate::proofs::Paths::hashes_more), unfolding(crate::specs::Payloads::as_name, crate::specs::Payloads::cases))]
+#[tactic(auto, using(crate::proofs::Paths::no_hash, crate::proofs::Paths::a_hash), unfolding(crate::specs::Payloads::as_name, crate::specs::Payloads::cases))]
 fn path_hashes(t: &Tree<'_>, b: &mut Builder<'_>, at: usize, levels: u16)
     ensures { Did b.old b.new (R.path_hashes t.now.image.now levels at) }
 {
@@ -101,7 +101,6 @@ fn path_hashes(t: &Tree<'_>, b: &mut Builder<'_>, at: usize, levels: u16)
 
 impl StoreRoot {
     // The number of the kind.
-    #[tactic(auto, unfolding(crate::specs::Kinds::root_kind))]
     fn kind(self) -> u32
         ensures { result ≡ root_kind self }
     {
@@ -113,7 +112,6 @@ impl StoreRoot {
     }
 
     // The number of the index; 0 where it has none.
-    #[tactic(auto, unfolding(crate::specs::Kinds::root_index))]
     fn index(self) -> u16
         ensures { result ≡ root_index self }
     {
@@ -160,7 +158,7 @@ fn store_as(
 }
 
 // The same under the root at `root`, a temp or another value, or a variable.
-#[tactic(auto, unfolding(crate::specs::Leaves::root_temp, crate::specs::Kinds::root_kind, crate::specs::Kinds::root_index, crate::specs::Payloads::as_name, crate::specs::Payloads::cases))]
+#[tactic(auto, unfolding(crate::specs::Leaves::root_temp, crate::specs::Payloads::as_name, crate::specs::Payloads::cases))]
 fn root_temp(
     t: &Tree<'_>,
     b: &mut Builder<'_>,
@@ -180,7 +178,7 @@ fn root_temp(
     store_as(t, b, at, StoreRoot::Temp(index), levels, count, q);
 }
 
-#[tactic(auto, unfolding(crate::specs::Leaves::root_var, crate::specs::Kinds::root_kind, crate::specs::Kinds::root_index, crate::specs::Payloads::as_name, crate::specs::Payloads::cases))]
+#[tactic(auto, unfolding(crate::specs::Leaves::root_var, crate::specs::Payloads::as_name, crate::specs::Payloads::cases))]
 fn root_var(
     t: &Tree<'_>,
     b: &mut Builder<'_>,

@@ -70,7 +70,7 @@ pub(crate) fn each_next(b: &mut Builder<'_>, index: EachIndex) -> u16
 }
 
 // A ForEach variable, or none where it is refused.
-#[tactic(auto, unfolding(crate::specs::Leaves::variable, crate::specs::Leaves::variable_temp, crate::specs::Leaves::no_variable, crate::specs::Leaves::variable_of, crate::specs::Payloads::as_name, crate::specs::Payloads::cases))]
+#[tactic(auto, unfolding(crate::specs::Leaves::variable, crate::specs::Leaves::variable_temp, crate::specs::Payloads::as_name, crate::specs::Payloads::cases))]
 pub(crate) fn variable(t: &Tree<'_>, b: &mut Builder<'_>, at: usize) -> Option<EachIndex>
     ensures { GaveVariable b.old b.new result (R.variable t.now.image.now at) }
 {
