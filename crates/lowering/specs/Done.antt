@@ -13,4 +13,6 @@ Gave b b' k f = (◌≡◌ {A = Found} (record { state = b'.state; index = k }, 
 
 -- the same where the step gave a ForEach variable's index, or none
 abbrev pub GaveVariable : Builder → Builder → Option EachIndex → (Held → EachVariable × List ℕ) → Type 0
-GaveVariable b b' k f = (◌≡◌ {A = EachVariable × List ℕ} (record { state = b'.state; index = k }, b'.words.now) (f (held b))) × (b'.words.ghost_name ≡ b.words.ghost_name)
+GaveVariable b b' k f =
+    (◌≡◌ {A = EachVariable × List ℕ} (record { state = b'.state; index = k }, b'.words.now) (f (held b)))
+    × (b'.words.ghost_name ≡ b.words.ghost_name)
