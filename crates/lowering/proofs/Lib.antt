@@ -7,3 +7,4 @@ pub mod Variants
 pub mod Handlers
 pub mod Levels
 pub mod Absent
+pub mod Rounds

@@ -39,6 +39,7 @@ use program::{Depths, Flags, PostIdx};
 use steps::{flag, not_float_only, pop};
 
 // The tree of an image as the main code, its End, and all that it needs in the workspace.
+#[tactic(auto, unfolding(crate::specs::Rules::lowered))]
 pub fn lower(tree: &[u8], ws: &mut [u32]) -> State
     ensures { ◌≡◌ {A = Held} (result, ws.new) (R.lowered tree.now ws.old) }
 {
@@ -131,6 +132,7 @@ fn leaf(t: &Tree<'_>, b: &mut Builder<'_>, at: usize, looping: bool, rule: u8)
 
 // The node at `at` as an expression.
 #[cycle(expression)]
+#[tactic(auto, unfolding(crate::specs::Rules::expr, crate::specs::Rules::branch, crate::specs::Leaves::among))]
 fn expr(t: &Tree<'_>, b: &mut Builder<'_>, at: usize, looping: bool, levels: u16)
     ensures { Did b.old b.new (R.expr t.now.image.now levels at looping) }
 {
@@ -175,6 +177,7 @@ fn expr(t: &Tree<'_>, b: &mut Builder<'_>, at: usize, looping: bool, levels: u16
 
 // array_element in the Rust: an element of an array variable.
 #[cycle(expression)]
+#[tactic(auto, unfolding(crate::specs::Rules::array_element, crate::specs::Payloads::as_name, crate::specs::Payloads::cases))]
 fn element(t: &Tree<'_>, b: &mut Builder<'_>, at: usize, looping: bool, levels: u16)
     ensures { Did b.old b.new (R.under t.now.image.now levels (R.array_element t.now.image.now) at looping) }
 {
@@ -195,6 +198,7 @@ fn element(t: &Tree<'_>, b: &mut Builder<'_>, at: usize, looping: bool, levels: 
 
 // The node at `at` as the base of a member path whose last member is `last`.
 #[cycle(expression)]
+#[tactic(auto, unfolding(crate::specs::Rules::chain, crate::specs::Rules::chained))]
 fn chain(t: &Tree<'_>, b: &mut Builder<'_>, at: usize, last: NameRef, looping: bool, levels: u16)
     ensures { Did b.old b.new (R.chain t.now.image.now levels at last looping) }
 {
@@ -213,6 +217,7 @@ fn chain(t: &Tree<'_>, b: &mut Builder<'_>, at: usize, last: NameRef, looping: b
 
 // member_read in the Rust: a member of the value of a base.
 #[cycle(expression)]
+#[tactic(auto, unfolding(crate::specs::Rules::member_read, crate::specs::Rules::chained, crate::specs::Payloads::as_name, crate::specs::Payloads::cases))]
 fn member(t: &Tree<'_>, b: &mut Builder<'_>, at: usize, looping: bool, levels: u16)
     ensures { Did b.old b.new (R.under t.now.image.now levels (R.member_read t.now.image.now) at looping) }
 {
@@ -230,6 +235,7 @@ fn member(t: &Tree<'_>, b: &mut Builder<'_>, at: usize, looping: bool, levels: u
 }
 
 #[cycle(expression)]
+#[tactic(auto, unfolding(crate::specs::Rules::assignment))]
 fn assignment(t: &Tree<'_>, b: &mut Builder<'_>, at: usize, looping: bool, levels: u16)
     ensures { Did b.old b.new (R.under t.now.image.now levels (R.assignment t.now.image.now) levels at looping) }
 {
@@ -248,6 +254,7 @@ fn assignment(t: &Tree<'_>, b: &mut Builder<'_>, at: usize, looping: bool, level
 
 // The second child, or the node's constant.
 #[cycle(expression)]
+#[tactic(auto, unfolding(crate::specs::Rules::value))]
 fn rhs(t: &Tree<'_>, b: &mut Builder<'_>, at: usize, first: usize, looping: bool, levels: u16)
     ensures { Did b.old b.new (R.under t.now.image.now levels (R.value t.now.image.now) at first looping) }
 {
@@ -262,6 +269,7 @@ fn rhs(t: &Tree<'_>, b: &mut Builder<'_>, at: usize, first: usize, looping: bool
 
 // Two operands with a Push between them, the one at `a` first.
 #[cycle(expression)]
+#[tactic(auto, unfolding(crate::specs::Rules::binary))]
 fn binary(t: &Tree<'_>, b: &mut Builder<'_>, a: usize, looping: bool, levels: u16)
     ensures { Did b.old b.new (R.under t.now.image.now levels (R.binary t.now.image.now) a looping) }
 {
@@ -271,6 +279,7 @@ fn binary(t: &Tree<'_>, b: &mut Builder<'_>, a: usize, looping: bool, levels: u1
 }
 
 #[cycle(expression)]
+#[tactic(auto, unfolding(crate::specs::Rules::compare))]
 fn compare(t: &Tree<'_>, b: &mut Builder<'_>, at: usize, o: Comparison, looping: bool, levels: u16)
     ensures { Did b.old b.new (R.under t.now.image.now levels (R.compare t.now.image.now) (comparison_of o) at looping) }
 {
@@ -290,6 +299,7 @@ fn compare(t: &Tree<'_>, b: &mut Builder<'_>, at: usize, o: Comparison, looping:
 }
 
 #[cycle(expression)]
+#[tactic(auto, unfolding(crate::specs::Rules::equal))]
 fn equal(t: &Tree<'_>, b: &mut Builder<'_>, at: usize, o: Equality, looping: bool, levels: u16)
     ensures { Did b.old b.new (R.under t.now.image.now levels (R.equal t.now.image.now) (equality_of o) at looping) }
 {
@@ -310,6 +320,7 @@ fn equal(t: &Tree<'_>, b: &mut Builder<'_>, at: usize, o: Equality, looping: boo
 
 // `&&` and `||`; every operand but the last can lead behind the last.
 #[cycle(expression)]
+#[tactic(auto, unfolding(crate::specs::Rules::logic))]
 fn logic(
     t: &Tree<'_>,
     b: &mut Builder<'_>,
@@ -341,6 +352,7 @@ fn logic(
 
 // `m` steps and the last operand, from the operand at `a` on; every step leads behind the last.
 #[cycle(expression)]
+#[tactic(auto, unfolding(crate::specs::Rules::operands))]
 fn ops(
     t: &Tree<'_>,
     b: &mut Builder<'_>,
@@ -378,6 +390,7 @@ fn ops(
 
 // Brackets: the first child.
 #[cycle(expression)]
+#[tactic(auto, unfolding(crate::specs::Rules::bracket))]
 fn par(t: &Tree<'_>, b: &mut Builder<'_>, at: usize, looping: bool, levels: u16)
     ensures { Did b.old b.new (R.under t.now.image.now levels (R.bracket t.now.image.now) at looping) }
 {
@@ -388,6 +401,7 @@ fn par(t: &Tree<'_>, b: &mut Builder<'_>, at: usize, looping: bool, levels: u16)
 }
 
 #[cycle(expression)]
+#[tactic(auto, unfolding(crate::specs::Rules::unary))]
 fn unary(t: &Tree<'_>, b: &mut Builder<'_>, at: usize, op: Opcode, looping: bool, levels: u16)
     ensures { Did b.old b.new (R.under t.now.image.now levels (R.unary t.now.image.now) (number_of op) at looping) }
 {
@@ -400,6 +414,7 @@ fn unary(t: &Tree<'_>, b: &mut Builder<'_>, at: usize, op: Opcode, looping: bool
 
 // The n-ary +: the first term pushed, every further one added to it, the last with the post.
 #[cycle(expression)]
+#[tactic(auto, unfolding(crate::specs::Rules::add))]
 fn add(t: &Tree<'_>, b: &mut Builder<'_>, at: usize, looping: bool, levels: u16)
     ensures { Did b.old b.new (R.under t.now.image.now levels (R.add t.now.image.now) at looping) }
 {
@@ -427,6 +442,7 @@ fn add(t: &Tree<'_>, b: &mut Builder<'_>, at: usize, looping: bool, levels: u16)
 
 // `m` terms and the last, from the term at `a` on.
 #[cycle(expression)]
+#[tactic(auto, unfolding(crate::specs::Rules::terms))]
 fn terms(t: &Tree<'_>, b: &mut Builder<'_>, at: usize, a: usize, m: u16, looping: bool, levels: u16)
     ensures { Did b.old b.new (R.under t.now.image.now levels (R.terms t.now.image.now) at m a looping) }
 {
@@ -441,6 +457,7 @@ fn terms(t: &Tree<'_>, b: &mut Builder<'_>, at: usize, a: usize, m: u16, looping
 }
 
 #[cycle(expression)]
+#[tactic(auto, unfolding(crate::specs::Rules::mul))]
 fn mul(t: &Tree<'_>, b: &mut Builder<'_>, at: usize, looping: bool, levels: u16)
     ensures { Did b.old b.new (R.under t.now.image.now levels (R.mul t.now.image.now) at looping) }
 {
@@ -464,6 +481,7 @@ fn divisor(tree: &[u8]) -> Divisor
 
 // The second child first; its guard pushes the divisor.
 #[cycle(expression)]
+#[tactic(auto, unfolding(crate::specs::Rules::div))]
 fn div(t: &Tree<'_>, b: &mut Builder<'_>, at: usize, looping: bool, levels: u16)
     ensures { Did b.old b.new (R.under t.now.image.now levels (R.div t.now.image.now) at looping) }
 {
@@ -482,6 +500,7 @@ fn div(t: &Tree<'_>, b: &mut Builder<'_>, at: usize, looping: bool, levels: u16)
 
 // Every argument but the last pushed, in order.
 #[cycle(expression)]
+#[tactic(auto, unfolding(crate::specs::Rules::host_math, crate::specs::Payloads::as_math, crate::specs::Payloads::cases))]
 fn host_math(t: &Tree<'_>, b: &mut Builder<'_>, at: usize, bits: u16, looping: bool, levels: u16)
     ensures { Did b.old b.new (R.under t.now.image.now levels (R.host_math t.now.image.now) bits at looping) }
 {
@@ -503,6 +522,7 @@ fn host_math(t: &Tree<'_>, b: &mut Builder<'_>, at: usize, bits: u16, looping: b
 
 // `m` arguments and the last of `k`, from the first on.
 #[cycle(expression)]
+#[tactic(auto, unfolding(crate::specs::Rules::host_arguments))]
 fn host(
     t: &Tree<'_>,
     b: &mut Builder<'_>,
@@ -529,6 +549,7 @@ fn host(
 
 // The second child between PointerEnter, behind the first, and PointerLeave.
 #[cycle(expression)]
+#[tactic(auto, unfolding(crate::specs::Rules::pointer))]
 fn pointer(t: &Tree<'_>, b: &mut Builder<'_>, at: usize, looping: bool, levels: u16)
     ensures { Did b.old b.new (R.under t.now.image.now levels (R.pointer t.now.image.now) at looping) }
 {
@@ -547,6 +568,7 @@ fn pointer(t: &Tree<'_>, b: &mut Builder<'_>, at: usize, looping: bool, levels: 
 }
 
 #[cycle(expression)]
+#[tactic(auto, unfolding(crate::specs::Rules::query, crate::specs::Rules::called, crate::specs::Payloads::as_query, crate::specs::Payloads::cases))]
 fn query(t: &Tree<'_>, b: &mut Builder<'_>, at: usize, levels: u16)
     ensures { Did b.old b.new (R.under t.now.image.now levels (R.query t.now.image.now) at) }
 {
@@ -564,6 +586,7 @@ fn query(t: &Tree<'_>, b: &mut Builder<'_>, at: usize, levels: u16)
 
 // Each argument is a segment of its own, without loops; its start goes to its slot.
 #[cycle(expression)]
+#[tactic(auto, unfolding(crate::specs::Rules::arguments))]
 fn segs(t: &Tree<'_>, b: &mut Builder<'_>, a: usize, m: u16, first: u16, levels: u16)
     ensures { Did b.old b.new (R.under t.now.image.now levels (R.arguments t.now.image.now) b.old.state.base b.old.state.waiting m a first) }
 {
@@ -583,6 +606,7 @@ fn segs(t: &Tree<'_>, b: &mut Builder<'_>, a: usize, m: u16, first: u16, levels:
 // ---- control
 
 #[cycle(expression)]
+#[tactic(auto, unfolding(crate::specs::Rules::coalesce))]
 fn coalesce(t: &Tree<'_>, b: &mut Builder<'_>, at: usize, looping: bool, levels: u16)
     ensures { Did b.old b.new (R.under t.now.image.now levels (R.coalesce t.now.image.now) at looping) }
 {
@@ -603,6 +627,7 @@ fn coalesce(t: &Tree<'_>, b: &mut Builder<'_>, at: usize, looping: bool, levels:
 
 // The third child, or 0.0.
 #[cycle(expression)]
+#[tactic(auto, unfolding(crate::specs::Rules::alternative))]
 fn alt(t: &Tree<'_>, b: &mut Builder<'_>, at: usize, second: usize, looping: bool, levels: u16)
     ensures { Did b.old b.new (R.under t.now.image.now levels (R.alternative t.now.image.now) at second looping) }
 {
@@ -614,6 +639,7 @@ fn alt(t: &Tree<'_>, b: &mut Builder<'_>, at: usize, second: usize, looping: boo
 
 // The second child, or the third.
 #[cycle(expression)]
+#[tactic(auto, unfolding(crate::specs::Rules::conditional))]
 fn conditional(t: &Tree<'_>, b: &mut Builder<'_>, at: usize, looping: bool, levels: u16)
     ensures { Did b.old b.new (R.under t.now.image.now levels (R.conditional t.now.image.now) at looping) }
 {
@@ -634,6 +660,7 @@ fn conditional(t: &Tree<'_>, b: &mut Builder<'_>, at: usize, looping: bool, leve
 
 // Each statement, and the constant of the list behind the last.
 #[cycle(expression)]
+#[tactic(auto, unfolding(crate::specs::Rules::statements))]
 fn statements(t: &Tree<'_>, b: &mut Builder<'_>, at: usize, looping: bool, levels: u16)
     ensures { Did b.old b.new (R.under t.now.image.now levels (R.statements t.now.image.now) at looping) }
 {
@@ -647,6 +674,7 @@ fn statements(t: &Tree<'_>, b: &mut Builder<'_>, at: usize, looping: bool, level
 
 // A statement of a list: only here is a Return one, elsewhere it is a constant.
 #[cycle(expression)]
+#[tactic(auto, unfolding(crate::specs::Rules::statement))]
 fn item(t: &Tree<'_>, b: &mut Builder<'_>, at: usize, looping: bool, levels: u16)
     ensures { Did b.old b.new (R.under t.now.image.now levels (R.statement t.now.image.now) at looping) }
 {
@@ -658,6 +686,7 @@ fn item(t: &Tree<'_>, b: &mut Builder<'_>, at: usize, looping: bool, levels: u16
 
 // A Return of a statement list.
 #[cycle(expression)]
+#[tactic(auto, unfolding(crate::specs::Rules::returned, crate::specs::Rules::ret))]
 fn ret(t: &Tree<'_>, b: &mut Builder<'_>, at: usize, looping: bool, levels: u16)
     ensures { Did b.old b.new (R.returned t.now.image.now levels at looping) }
 {
@@ -674,6 +703,7 @@ fn ret(t: &Tree<'_>, b: &mut Builder<'_>, at: usize, looping: bool, levels: u16)
 
 // counted_loop in the Rust: the count, and the body so often.
 #[cycle(expression)]
+#[tactic(auto, unfolding(crate::specs::Rules::counted_loop))]
 fn repeat(t: &Tree<'_>, b: &mut Builder<'_>, at: usize, looping: bool, levels: u16)
     ensures { Did b.old b.new (R.under t.now.image.now levels (R.counted_loop t.now.image.now) at looping) }
 {
@@ -694,6 +724,7 @@ fn repeat(t: &Tree<'_>, b: &mut Builder<'_>, at: usize, looping: bool, levels: u
 }
 
 #[cycle(expression)]
+#[tactic(auto, unfolding(crate::specs::Rules::for_each))]
 fn for_each(t: &Tree<'_>, b: &mut Builder<'_>, at: usize, looping: bool, levels: u16)
     ensures { Did b.old b.new (R.under t.now.image.now levels (R.for_each t.now.image.now) at looping) }
 {
@@ -709,6 +740,7 @@ fn for_each(t: &Tree<'_>, b: &mut Builder<'_>, at: usize, looping: bool, levels:
 
 // Behind a ForEach's variable: the array, and the body once for each element.
 #[cycle(expression)]
+#[tactic(auto, unfolding(crate::specs::Rules::each))]
 fn each(t: &Tree<'_>, b: &mut Builder<'_>, at: usize, k: EachIndex, looping: bool, levels: u16)
     ensures { Did b.old b.new (R.under t.now.image.now levels (R.each t.now.image.now) at (each_next k) looping) }
 {
