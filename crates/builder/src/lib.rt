@@ -1,10 +1,11 @@
 // The builder: the lent workspace's words, and beside them how much of each region is in use, a waiting Push, depth, flags and the first refusal.
 #![tactic(auto)]
 
+mod refusing;
 pub mod segments;
 
 ghost use Rattle.builder.specs.Done.{Did};
-ghost use Rattle.builder.specs.Steps.{emitted, flushed, put, put_const, still, failed, pushed};
+ghost use Rattle.builder.specs.Steps.{emitted, flushed, put, put_const, still, pushed};
 
 use answers::refusals::Refusal;
 use code::segment;
@@ -54,7 +55,8 @@ impl<'a> Builder<'a> {
     pub fn emit(&mut self, front: u32, back: u32)
         ensures { Did self.old self.new (emitted front back) }
     {
-        self.state.top = segment::emit(self.words, self.state.top, front, back);
+        let top = segment::emit(self.words, self.state.top, front, back);
+        self.state.top = top;
     }
 
     // A Push that waits comes before anything that is no constant.
@@ -87,15 +89,6 @@ impl<'a> Builder<'a> {
             return;
         }
         self.emit(CONST, index.0);
-    }
-
-    // The first refusal stays.
-    #[tactic(auto, unfolding(crate::specs::Steps::failed, crate::specs::Steps::refused))]
-    pub fn failed(&mut self, why: Refusal)
-        ensures { Did self.old self.new (failed why) }
-    {
-        self.flush();
-        self.state.refusal = self.state.refusal.or(Some(why));
     }
 
     // A Push waits, and one more operand is on the stack.

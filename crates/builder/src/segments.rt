@@ -38,8 +38,8 @@ impl<'a> Builder<'a> {
         ensures { Did self.old self.new (λ h. (h.0, breaks_resolved h.0 at check cleanup h.1)) }
     {
         let from = self.state.absolute(at);
-        let top = self.state.top;
-        segment::resolve_breaks(self.words, from, top.saturating_sub(from), check, cleanup);
+        let count = self.state.top.saturating_sub(from);
+        segment::resolve_breaks(self.words, from, count, check, cleanup);
     }
 
     // An argument's segment begins behind the open one; no Push waits.
@@ -58,9 +58,10 @@ impl<'a> Builder<'a> {
     {
         let start = self.state.base;
         let count = self.state.place();
-        self.state.finished = segment::move_segment(self.words, start, count, self.state.finished);
+        let finished = segment::move_segment(self.words, start, count, self.state.finished);
         self.state.top = start;
         self.state.base = base;
+        self.state.finished = finished;
         self.state.waiting = waiting;
     }
 }

@@ -1,10 +1,5 @@
 pub mod Hits
 pub mod Skipped
 pub mod Slots
-pub mod Missed
 pub mod Paths
-pub mod Variants
-pub mod Handlers
-pub mod Levels
-pub mod Absent
 pub mod Rounds
