@@ -1,3 +1,4 @@
 pub mod Fields
 pub mod Steps
 pub mod Segments
+pub mod Done

@@ -12,6 +12,10 @@ use Rattle.builder.specs.Fields.{set_top, set_waiting, set_depth, set_refusal}
 abbrev pub Held : Type 0
 Held = State × List ℕ
 
+-- a step beside the words
+abbrev pub still : (State → State) → Held → Held
+still f h = (f h.0, h.1)
+
 unfoldable pub emitted : ℕ → ℕ → Held → Held
 emitted front back h = (set_top (G.emitted_top h.0.top) h.0, G.emitted h.1 h.0.top front back)
 

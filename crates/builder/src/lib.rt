@@ -1,10 +1,11 @@
-// The builder's state by value, beside the lent workspace: how much of each region is in use, a waiting Push, depth, flags and the first refusal.
+// The builder: the lent workspace's words, and beside them how much of each region is in use, a waiting Push, depth, flags and the first refusal.
 #![tactic(auto)]
 
+mod refusing;
 pub mod segments;
 
-ghost use Rattle.std.specs.Prelude.{◌≡◌, List};
-ghost use Rattle.builder.specs.Steps.{Held, emitted, flushed, put, put_const, refused, failed, pushed};
+ghost use Rattle.builder.specs.Done.{Did};
+ghost use Rattle.builder.specs.Steps.{emitted, flushed, put, put_const, still, pushed};
 
 use answers::refusals::Refusal;
 use code::segment;
@@ -41,70 +42,61 @@ pub struct State {
     pub refusal: Option<Refusal>,
 }
 
-// Appends an instruction to the open code.
-pub fn emit(ws: &mut [u32], st: State, front: u32, back: u32) -> State
-    ensures { ◌≡◌ {A = Held} (result, ws.new) (emitted front back (st, ws.old)) }
-{
-    let top = segment::emit(ws, st.top, front, back);
-    let mut s = st;
-    s.top = top;
-    s
+// The state, and the workspace's words that were lent.
+#[derive(Drop)]
+pub struct Builder<'a> {
+    pub state: State,
+    pub words: &'a mut [u32],
 }
 
-// A Push that waits comes before anything that is no constant.
-pub fn flush(ws: &mut [u32], st: State) -> State
-    ensures { ◌≡◌ {A = Held} (result, ws.new) (flushed (st, ws.old)) }
-{
-    if st.waiting {
-        let mut s = st;
-        s.waiting = false;
-        return emit(ws, s, PUSH, 0);
+impl<'a> Builder<'a> {
+    // Appends an instruction to the open code.
+    #[tactic(auto, unfolding(crate::specs::Steps::emitted))]
+    pub fn emit(&mut self, front: u32, back: u32)
+        ensures { Did self.old self.new (emitted front back) }
+    {
+        let top = segment::emit(self.words, self.state.top, front, back);
+        self.state.top = top;
     }
-    st
-}
 
-pub fn put(ws: &mut [u32], st: State, front: u32, back: u32) -> State
-    ensures { ◌≡◌ {A = Held} (result, ws.new) (put front back (st, ws.old)) }
-{
-    let s = flush(ws, st);
-    emit(ws, s, front, back)
-}
-
-// Const, or PushConst where a Push waits.
-pub fn put_const(ws: &mut [u32], st: State, index: ConstIdx) -> State
-    ensures { ◌≡◌ {A = Held} (result, ws.new) (put_const index.0 (st, ws.old)) }
-{
-    if st.waiting {
-        let mut s = st;
-        s.waiting = false;
-        return emit(ws, s, PUSH_CONST, index.0);
+    // A Push that waits comes before anything that is no constant.
+    #[tactic(auto, unfolding(crate::specs::Steps::flushed))]
+    pub fn flush(&mut self)
+        ensures { Did self.old self.new flushed }
+    {
+        if self.state.waiting {
+            self.state.waiting = false;
+            self.emit(PUSH, 0);
+        }
     }
-    emit(ws, st, CONST, index.0)
-}
 
-// The first refusal stays.
-fn refuse(st: State, why: Refusal) -> State
-    ensures { result ≡ refused why st }
-{
-    let mut s = st;
-    s.refusal = st.refusal.or(Some(why));
-    s
-}
+    #[tactic(auto, unfolding(crate::specs::Steps::put))]
+    pub fn put(&mut self, front: u32, back: u32)
+        ensures { Did self.old self.new (put front back) }
+    {
+        self.flush();
+        self.emit(front, back);
+    }
 
-pub fn failed(ws: &mut [u32], st: State, why: Refusal) -> State
-    ensures { ◌≡◌ {A = Held} (result, ws.new) (failed why (st, ws.old)) }
-{
-    let s = flush(ws, st);
-    refuse(s, why)
-}
+    // Const, or PushConst where a Push waits.
+    #[tactic(auto, unfolding(crate::specs::Steps::put_const))]
+    pub fn put_const(&mut self, index: ConstIdx)
+        ensures { Did self.old self.new (put_const index.0) }
+    {
+        if self.state.waiting {
+            self.state.waiting = false;
+            self.emit(PUSH_CONST, index.0);
+            return;
+        }
+        self.emit(CONST, index.0);
+    }
 
-// A Push waits, and one more operand is on the stack.
-#[tactic(auto, unfolding(crate::specs::Steps::pushed))]
-pub fn push(st: State) -> State
-    ensures { result ≡ pushed st }
-{
-    let mut s = st;
-    s.depth.push_operand();
-    s.waiting = true;
-    s
+    // A Push waits, and one more operand is on the stack.
+    #[tactic(auto, unfolding(crate::specs::Steps::pushed))]
+    pub fn push(&mut self)
+        ensures { Did self.old self.new (still pushed) }
+    {
+        self.state.depth.push_operand();
+        self.state.waiting = true;
+    }
 }

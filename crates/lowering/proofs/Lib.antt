@@ -1,14 +1,5 @@
 pub mod Hits
 pub mod Skipped
 pub mod Slots
-pub mod Entered
-pub mod Choice
-pub mod Others
-pub mod Missed
-pub mod Laws
 pub mod Paths
-pub mod Variants
-pub mod Refused
-pub mod Handlers
-pub mod Levels
-pub mod Absent
+pub mod Rounds

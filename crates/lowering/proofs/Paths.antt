@@ -1,5 +1,5 @@
 -- A member path at no level and at one more, as the test of its levels tells. Assumes nothing.
-use mathlib.Core.Path.{◌≡◌, refl, sym, ap, ◌∙◌}
+use mathlib.Core.Path.{◌≡◌, refl, ap}
 use mathlib.Core.Bool.{true, cond}
 use mathlib.Core.List.{List}
 use Prim.Native.Nat.{ℕ, zero, suc, ◌-◌}
@@ -7,34 +7,26 @@ use native.Mathlib.Numerals.{sub-one}
 use lib.Dec.{eqb}
 use Rattle.ast.specs.Node.{count_at, first_at}
 use Rattle.builder.specs.Steps.{Held}
-use Rattle.lowering.specs.Pools.{after}
-use Rattle.lowering.specs.declared.assign.PathEnd.{PathEnd}
 use Rattle.lowering.specs.Payloads.{as_name}
 use Rattle.lowering.specs.Parts.{path_added}
 use Rattle.lowering.specs.Rules.{no_path, payload, is_link, longer, path_end, path_hashes}
 
-pub end_zero : (t : List ℕ) (n p : ℕ) → n ≡ 0 → no_path ≡ path_end t n p
+pub no_end : (t : List ℕ) (n p : ℕ) → n ≡ 0 → path_end t n p ≡ no_path
 unfolding path_end
-end_zero t n p e = ap (λ (m : ℕ). path_end t m p) (sym e)
+no_end t n p e = ap (λ (m : ℕ). path_end t m p) e
 
-pub end_more : (t : List ℕ) (n p : ℕ) → (n ≡ 0 → ⊥)
-    → cond (is_link t p) (as_name 6 (payload t p) no_path (λ m. cond (eqb (count_at t p) 0) no_path (longer t (path_end t (n - 1) (first_at t p))))) (record { fine = true; root = p; count = 0 }) ≡ path_end t n p
+pub an_end : (t : List ℕ) (n p : ℕ) → (n ≡ 0 → ⊥)
+    → path_end t n p ≡ cond (is_link t p) (as_name 6 (payload t p) no_path (λ m. cond (eqb (count_at t p) 0) no_path (longer t (path_end t (n - 1) (first_at t p))))) (record { fine = true; root = p; count = 0 })
 unfolding path_end
-end_more t zero p e = absurd (e refl)
-end_more t (suc n) p e = rw (sub-one (suc n))
+an_end t zero p e = absurd (e refl)
+an_end t (suc n) p e = rw (sub-one (suc n))
 
-pub hashes_zero : (t : List ℕ) (n p : ℕ) (h : Held) → n ≡ 0 → h ≡ path_hashes t n p h
+pub no_hash : (t : List ℕ) (n p : ℕ) (h : Held) → n ≡ 0 → path_hashes t n p h ≡ h
 unfolding path_hashes
-hashes_zero t n p h e = ap (λ (m : ℕ). path_hashes t m p h) (sym e)
+no_hash t n p h e = ap (λ (m : ℕ). path_hashes t m p h) e
 
-pub hashes_more : (t : List ℕ) (n p : ℕ) (h : Held) → (n ≡ 0 → ⊥)
-    → cond (is_link t p) (as_name 6 (payload t p) h (λ m. path_added m.hash (path_hashes t (n - 1) (first_at t p) h))) h ≡ path_hashes t n p h
+pub a_hash : (t : List ℕ) (n p : ℕ) (h : Held) → (n ≡ 0 → ⊥)
+    → path_hashes t n p h ≡ cond (is_link t p) (as_name 6 (payload t p) h (λ m. path_added m.hash (path_hashes t (n - 1) (first_at t p) h))) h
 unfolding path_hashes
-hashes_more t zero p h e = absurd (e refl)
-hashes_more t (suc n) p h e = rw (sub-one (suc n))
-
-pub more_links : (t : List ℕ) (n : ℕ) {p q m : ℕ} {e : PathEnd} → e ≡ path_end t n p → p ≡ q → m ≡ after e.count → ◌≡◌ {A = PathEnd} (record { fine = e.fine; root = e.root; count = m }) (longer t (path_end t n q))
-more_links t n {p} {q} {m} {e} f g h =
-    let a : e ≡ path_end t n q = f ∙ ap (λ (x : ℕ). path_end t n x) g in
-    let b : m ≡ after (path_end t n q).count = h ∙ ap (λ (x : PathEnd). after x.count) a in
-    λ j. record { fine = (a j).fine; root = (a j).root; count = b j }
+a_hash t zero p h e = absurd (e refl)
+a_hash t (suc n) p h e = rw (sub-one (suc n))

@@ -14,16 +14,16 @@ use Rattle.code.specs.Segments.{BREAK, CONTINUE}
 use Rattle.payload.specs.declared.NameRef.{NameRef}
 use Rattle.payload.specs.declared.Payload.{Payload}
 use Rattle.payload.specs.Payloads.{payload_ref_at}
-use Rattle.builder.specs.Steps.{Held, failed}
+use Rattle.builder.specs.declared.State.{State}
+use Rattle.builder.specs.Steps.{Held, still, failed}
 use Rattle.lowering.specs.Pools as B
 use Rattle.lowering.specs.Pools.{Found, after, constant}
 use Rattle.lowering.specs.declared.assign.PathEnd.{PathEnd}
-use Rattle.lowering.specs.declared.control.EachVariable.{EachVariable}
 use Rattle.lowering.specs.declared.control.EachIndex.{EachIndex}
-use Rattle.lowering.specs.declared.control.EachIndex.TheVariants.{Name, Temp, Refused}
+use Rattle.lowering.specs.declared.control.EachIndex.TheVariants.{Name, Temp}
 use Rattle.lowering.specs.Payloads.{as_name, as_hash, as_math, as_query, float_of, const_of, string_of, resource_of}
 use Rattle.lowering.specs.Steps.{flagged, not_float_only}
-use Rattle.lowering.specs.Parts.{Step, ◌>>◌, ◌>>=◌, either, still, instr, going, with_const, with_hash, with_name, with_temp, with_member}
+use Rattle.lowering.specs.Parts.{Step, ◌>>◌, ◌>>=◌, either, instr, going, with_const, with_hash, with_name, with_temp, with_member}
 use Rattle.lowering.specs.Parts.{post_bits, with_post, put_post, jump_out}
 use Rattle.lowering.specs.Parts.{path_added, store_added}
 
@@ -32,12 +32,17 @@ unfoldable pub among : List (ℕ × Held) → ℕ → Held → Held
 among [] r d = d
 among (e ∷ l) r d = cond (eqb r e.0) e.1 (among l r d)
 
--- a ForEach variable that is refused, and one that is interned, as a name or as a temp
-unfoldable pub no_variable : Held → EachVariable × List ℕ
-no_variable h = let g = failed Refusal.Failed h in (record { state = g.0; index = Refused }, g.1)
+-- a state with a ForEach variable's index, none where the variable is refused
+pub record EachVariable : Type 0 where
+  pub state : State
+  pub index : Option EachIndex
 
-unfoldable pub variable_of : (ℕ → EachIndex) → Found → EachVariable × List ℕ
-variable_of kind e = (record { state = e.0.state; index = kind e.0.index }, e.1)
+-- one that is refused, and one that is interned, as a name or as a temp
+abbrev pub no_variable : Held → EachVariable × List ℕ
+no_variable h = let g = failed Refusal.Failed h in (record { state = g.0; index = None }, g.1)
+
+abbrev pub variable_of : (ℕ → EachIndex) → Found → EachVariable × List ℕ
+variable_of kind e = (record { state = e.0.state; index = Some (kind e.0.index) }, e.1)
 
 abbrev pub name_kind : ℕ → EachIndex
 name_kind k = Name (record { 0 = k })

@@ -7,3 +7,4 @@ pub mod Steps
 pub mod Parts
 pub mod Leaves
 pub mod Rules
+pub mod Done

@@ -11,7 +11,7 @@ use Rattle.lowering.specs.Regions.{appended_count, appended_words}
 use Rattle.payload.specs.declared.NameRef.{NameRef}
 use Rattle.builder.specs.declared.State.{State}
 use Rattle.lowering.specs.declared.control.EachIndex.{EachIndex}
-use Rattle.lowering.specs.declared.control.EachIndex.TheVariants.{Name, Temp, Refused}
+use Rattle.lowering.specs.declared.control.EachIndex.TheVariants.{Name, Temp}
 use Rattle.builder.specs.Steps.{Held, emitted, flushed, put, failed}
 use Rattle.lowering.specs.Pools as B
 use Rattle.lowering.specs.Pools.{Found, after}
@@ -37,10 +37,6 @@ either b f g h = cond b (f h) (g h)
 abbrev pub unless_refused : Option Refusal → Step → Step
 unless_refused None f h = f h
 unless_refused (Some why) f h = failed why h
-
--- a step beside the words
-abbrev pub still : (State → State) → Step
-still f h = (f h.0, h.1)
 
 -- the first word of an instruction, its sub and B cut to their fields
 abbrev pub front : ℕ → ℕ → ℕ → ℕ
@@ -130,17 +126,15 @@ each_closed begin next h =
       instr O.LOOP_END 0 0 0
       place_target begin) h
 
--- 01, question 7: "a ForEach variable Entity or Temp under any operator"
-unfoldable pub is_refused : EachIndex → Bool
-is_refused (Name n) = false
-is_refused (Temp n) = false
-is_refused Refused = true
-
--- 01, The program image: "in EachNextVar and EachNextTemp, A is the exit and B the variable"; a refused variable has neither
+-- 01, The program image: "in EachNextVar and EachNextTemp, A is the exit and B the variable"
 unfoldable pub each_next : EachIndex → Held → Found
 each_next (Name n) = emit_jump O.EACH_NEXT_VAR 0 n.0
 each_next (Temp n) = emit_jump O.EACH_NEXT_TEMP 0 n.0
-each_next Refused = λ h. (record { state = h.0; index = place h.0 }, h.1)
+
+-- 01, question 7: "a ForEach variable Entity or Temp under any operator": the step with the variable's index, nothing more where it is refused
+abbrev pub where_found : Option EachIndex → (EachIndex → Step) → Step
+where_found None f h = h
+where_found (Some i) f h = f i h
 
 -- a call takes its number, and places for its arguments' starts
 unfoldable pub call_begun : ℕ → ℕ → ℕ → Held → Found

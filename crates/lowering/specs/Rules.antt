@@ -13,15 +13,15 @@ use Rattle.program.specs.Image.{bit}
 use Rattle.payload.specs.declared.NameRef.{NameRef}
 use Rattle.program.specs.declared.Depths.{Depths}
 use Rattle.builder.specs.declared.State.{State}
-use Rattle.builder.specs.Steps.{Held, failed, pushed}
+use Rattle.builder.specs.Steps.{Held, still, failed, pushed}
 use Rattle.lowering.specs.Pools.{Found, after, constant}
 use Rattle.builder.specs.Segments.{opened}
 use Rattle.lowering.specs.Payloads.{const_of}
 use Rattle.lowering.specs.Steps.{operand_entered, popped, loop_entered, loop_left, handler_entered, handler_left, flagged, not_float_only, queried}
-use Rattle.lowering.specs.Parts.{Step, ◌>>◌, ◌>>=◌, either, unless_refused, still, instr}
+use Rattle.lowering.specs.Parts.{Step, ◌>>◌, ◌>>=◌, either, unless_refused, instr}
 use Rattle.lowering.specs.Parts.{post_bits, with_post, put_post, post_instr, emit_jump, with_jump, place_target, resolve_breaks, loop_closed, each_closed}
 use Rattle.lowering.specs.Parts.{with_call, argument_closed}
-use Rattle.lowering.specs.Parts.{is_refused, each_next}
+use Rattle.lowering.specs.Parts.{each_next, where_found}
 unfoldable pub use Rattle.lowering.specs.Leaves.{among, no_variable, variable_of, name_kind, temp_kind, no_path, payload, rule, if_name, if_hash}
 unfoldable pub use Rattle.lowering.specs.Leaves.{if_math, if_query, load_context, load_temp, load_var, load, string_literal, resource, generic}
 unfoldable pub use Rattle.lowering.specs.Leaves.{member_put, array_put, longer, is_link, path_end, path_hashes, store_as, root_temp, root_var}
@@ -191,7 +191,7 @@ module _ (t : List ℕ) (E : ℕ → Bool → Step) (C : ℕ → NameRef → Boo
       let g = still (λ s. not_float_only (flagged Flag.HAS_LOOPS s)) h in
       let v = variable t (first_at t p) g in
       cond (ltb (count_at t p) 3) (failed Refusal.Failed g)
-      (cond (is_refused v.0.index) (v.0.state, v.1) (each p (each_next v.0.index) l (v.0.state, v.1)))
+      (where_found v.0.index (λ i. each p (each_next i) l) (v.0.state, v.1))
 
   -- the second child, or the node's constant
   unfoldable pub value : ℕ → ℕ → Bool → Step

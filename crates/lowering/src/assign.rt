@@ -1,22 +1,21 @@
 // What an assignment stores to: a variable, a temp, or a member path of a root.
-ghost use Rattle.std.specs.Prelude.{◌≡◌, List};
-ghost use Rattle.builder.specs.Steps.{Held};
-ghost use Rattle.lowering.specs.Pools.{Found};
-ghost use Rattle.lowering.specs.Kinds.{of_store, root_kind, root_index};
+ghost use Rattle.std.specs.Prelude.{◌≡◌};
+ghost use Rattle.builder.specs.Done.{Did};
+ghost use Rattle.lowering.specs.Done.{Gave};
+ghost use Rattle.lowering.specs.Kinds.{root_kind, root_index};
 ghost use Rattle.lowering.specs.Parts.{path_added, store_added};
 ghost use Rattle.lowering.specs.Rules as R;
 
-use crate::interning::StoreEntry;
-use crate::parts::{name_instr, post, store_instr, temp_instr};
+use crate::image::Tree;
+use crate::parts::{instr, post};
 use crate::steps::{flag, not_float_only};
 use crate::{interning, regions};
 use answers::refusals::Refusal;
 use ast::operators;
-use builder::State;
+use builder::Builder;
 use payload::Payload;
 use program::opcodes::Opcode;
 use program::{Flags, NameIdx, PostIdx, StoreIdx, TempIdx};
-use workspace::counts::one_more;
 use workspace::words::{high, low};
 
 // Where a member path ends: whether all its links are members, its root, how many links.
@@ -35,12 +34,6 @@ pub enum StoreRoot {
     Other,
 }
 
-fn rule_at(tree: &[u8], at: usize) -> u8
-    ensures { result ≡ R.rule tree.now at }
-{
-    ast::rule(tree::op_at(tree, at))
-}
-
 fn no_path() -> PathEnd
     ensures { result ≡ R.no_path }
 {
@@ -51,234 +44,221 @@ fn no_path() -> PathEnd
     }
 }
 
-fn path_end(tree: &[u8], at: usize, levels: u16) -> PathEnd
-    ensures { result ≡ R.path_end tree.now levels at }
+#[tactic(auto, using(crate::proofs::Paths::no_end, crate::proofs::Paths::an_end), unfolding(crate::specs::Payloads::as_name, crate::specs::Payloads::cases))]
+fn path_end(t: &Tree<'_>, at: usize, levels: u16) -> PathEnd
+    ensures { result ≡ R.path_end t.now.image.now levels at }
 {
     if levels == 0 {
         return no_path();
     }
-    if rule_at(tree, at) != operators::MEMBER_ACCESSOR {
+    if t.rule_at(at) != operators::MEMBER_ACCESSOR {
         return PathEnd {
             fine: true,
             root: at,
             count: 0,
         };
     }
-    let p = payload::payload_at(tree, at);
+    let p = payload::payload_at(t.image, at);
     let Payload::Member(_) = p else {
         return no_path();
     };
-    if tree::count_at(tree, at) == 0 {
+    if tree::count_at(t.image, at) == 0 {
         return no_path();
     }
-    let e = path_end(tree, tree::first_at(tree, at), levels - 1);
+    let e = path_end(t, tree::first_at(t.image, at), levels - 1);
     PathEnd {
         fine: e.fine,
         root: e.root,
-        count: one_more(e.count),
+        count: e.count.saturating_add(1),
     }
 }
 
-fn add_path(ws: &mut [u32], st: State, hash: u64) -> State
-    ensures { ◌≡◌ {A = Held} (result, ws.new) (path_added hash (st, ws.old)) }
+#[tactic(auto, unfolding(crate::specs::Parts::path_added))]
+fn add_path(b: &mut Builder<'_>, hash: u64)
+    ensures { Did b.old b.new (path_added hash) }
 {
-    let n = regions::PATHS.append(ws, st.paths, &[high(hash), low(hash)]);
-    let mut s = st;
-    s.paths = n;
-    s
+    b.state.paths = regions::PATHS.append(b.words, b.state.paths, &[high(hash), low(hash)]);
 }
 
 // The path's hashes, from the root outwards.
-fn path_hashes(tree: &[u8], at: usize, ws: &mut [u32], st: State, levels: u16) -> State
-    ensures { ◌≡◌ {A = Held} (result, ws.new) (R.path_hashes tree.now levels at (st, ws.old)) }
+#[tactic(auto, using(crate::proofs::Paths::no_hash, crate::proofs::Paths::a_hash), unfolding(crate::specs::Payloads::as_name, crate::specs::Payloads::cases))]
+fn path_hashes(t: &Tree<'_>, b: &mut Builder<'_>, at: usize, levels: u16)
+    ensures { Did b.old b.new (R.path_hashes t.now.image.now levels at) }
 {
     if levels == 0 {
-        return st;
+        return;
     }
-    if rule_at(tree, at) != operators::MEMBER_ACCESSOR {
-        return st;
+    if t.rule_at(at) != operators::MEMBER_ACCESSOR {
+        return;
     }
-    let p = payload::payload_at(tree, at);
+    let p = payload::payload_at(t.image, at);
     let Payload::Member(n) = p else {
-        return st;
+        return;
     };
-    let s = path_hashes(tree, tree::first_at(tree, at), ws, st, levels - 1);
-    add_path(ws, s, n.hash)
+    path_hashes(t, b, tree::first_at(t.image, at), levels - 1);
+    add_path(b, n.hash);
 }
 
-// The number of a root's kind.
-fn root_kind(root: StoreRoot) -> u32
-    ensures { result ≡ root_kind root }
-{
-    match root {
-        StoreRoot::Var(_) => 0,
-        StoreRoot::Temp(_) => 1,
-        StoreRoot::Other => 2,
+impl StoreRoot {
+    // The number of the kind.
+    fn kind(self) -> u32
+        ensures { result ≡ root_kind self }
+    {
+        match self {
+            StoreRoot::Var(_) => 0,
+            StoreRoot::Temp(_) => 1,
+            StoreRoot::Other => 2,
+        }
+    }
+
+    // The number of the index; 0 where it has none.
+    fn index(self) -> u16
+        ensures { result ≡ root_index self }
+    {
+        match self {
+            StoreRoot::Var(n) => n.0,
+            StoreRoot::Temp(n) => n.0,
+            StoreRoot::Other => 0,
+        }
     }
 }
 
-// The number of a root's index; 0 where it has none.
-fn root_index(root: StoreRoot) -> u16
-    ensures { result ≡ root_index root }
+#[tactic(auto, unfolding(crate::specs::Parts::store_added))]
+fn add_store(b: &mut Builder<'_>, root: StoreRoot, first: u16, count: u16) -> StoreIdx
+    ensures { Gave b.old b.new result.0 (store_added (root_kind root) (root_index root) first count) }
 {
-    match root {
-        StoreRoot::Var(n) => n.0,
-        StoreRoot::Temp(n) => n.0,
-        StoreRoot::Other => 0,
-    }
-}
-
-fn add_store(ws: &mut [u32], st: State, root: StoreRoot, first: u16, count: u16) -> StoreEntry
-    ensures { ◌≡◌ {A = Found} (of_store result, ws.new) (store_added (root_kind root) (root_index root) first count (st, ws.old)) }
-{
-    let k = st.stores;
+    let k = b.state.stores;
     let entry = [
-        root_kind(root),
-        root_index(root) as u32,
-        first as u32,
-        count as u32,
+        root.kind(),
+        u32::from(root.index()),
+        u32::from(first),
+        u32::from(count),
     ];
-    let n = regions::STORES.append(ws, k, &entry);
-    let mut s = st;
-    s.stores = n;
-    StoreEntry {
-        state: s,
-        index: StoreIdx(k),
-    }
+    b.state.stores = regions::STORES.append(b.words, k, &entry);
+    StoreIdx(k)
 }
 
 // A store to the path at `at` under that root.
+#[tactic(auto, unfolding(crate::specs::Leaves::store_as))]
 fn store_as(
-    tree: &[u8],
+    t: &Tree<'_>,
+    b: &mut Builder<'_>,
     at: usize,
-    ws: &mut [u32],
-    st: State,
     root: StoreRoot,
     levels: u16,
     count: u16,
     q: PostIdx,
-) -> State
-    ensures { ◌≡◌ {A = Held} (result, ws.new) (R.store_as tree.now (root_kind root) (root_index root) levels at count q.0 (st, ws.old)) }
+)
+    ensures { Did b.old b.new (R.store_as t.now.image.now (root_kind root) (root_index root) levels at count q.0) }
 {
-    let first = st.paths;
-    let s = path_hashes(tree, at, ws, st, levels);
-    let e = add_store(ws, s, root, first, count);
-    store_instr(ws, e, Opcode::StoreMember, 0, q)
+    let first = b.state.paths;
+    path_hashes(t, b, at, levels);
+    let index = add_store(b, root, first, count);
+    instr(b, Opcode::StoreMember, 0, u32::from(index.0), q);
 }
 
+// The same under the root at `root`, a temp or another value, or a variable.
+#[tactic(auto, unfolding(crate::specs::Leaves::root_temp, crate::specs::Payloads::as_name, crate::specs::Payloads::cases))]
 fn root_temp(
-    tree: &[u8],
+    t: &Tree<'_>,
+    b: &mut Builder<'_>,
     root: usize,
     at: usize,
-    ws: &mut [u32],
-    st: State,
     levels: u16,
     count: u16,
     q: PostIdx,
-) -> State
-    ensures { ◌≡◌ {A = Held} (result, ws.new) (R.root_temp tree.now root levels at count q.0 (st, ws.old)) }
+)
+    ensures { Did b.old b.new (R.root_temp t.now.image.now root levels at count q.0) }
 {
-    let p = payload::payload_at(tree, root);
+    let p = payload::payload_at(t.image, root);
     let Payload::Temp(n) = p else {
-        return store_as(tree, at, ws, st, StoreRoot::Other, levels, count, q);
+        return store_as(t, b, at, StoreRoot::Other, levels, count, q);
     };
-    let e = interning::temp(ws, st, n);
-    let s = e.state;
-    let k = e.index;
-    store_as(tree, at, ws, s, StoreRoot::Temp(k), levels, count, q)
+    let index = interning::temp(b, n);
+    store_as(t, b, at, StoreRoot::Temp(index), levels, count, q);
 }
 
+#[tactic(auto, unfolding(crate::specs::Leaves::root_var, crate::specs::Payloads::as_name, crate::specs::Payloads::cases))]
 fn root_var(
-    tree: &[u8],
+    t: &Tree<'_>,
+    b: &mut Builder<'_>,
     root: usize,
     at: usize,
-    ws: &mut [u32],
-    st: State,
     levels: u16,
     count: u16,
     q: PostIdx,
-) -> State
-    ensures { ◌≡◌ {A = Held} (result, ws.new) (R.root_var tree.now root levels at count q.0 (st, ws.old)) }
+)
+    ensures { Did b.old b.new (R.root_var t.now.image.now root levels at count q.0) }
 {
-    let p = payload::payload_at(tree, root);
+    let p = payload::payload_at(t.image, root);
     let Payload::Entity(n) = p else {
-        return root_temp(tree, root, at, ws, st, levels, count, q);
+        return root_temp(t, b, root, at, levels, count, q);
     };
-    let e = interning::name(ws, st, n);
-    let s = e.state;
-    let k = e.index;
-    store_as(tree, at, ws, s, StoreRoot::Var(k), levels, count, q)
+    let index = interning::name(b, n);
+    store_as(t, b, at, StoreRoot::Var(index), levels, count, q);
 }
 
-fn store_member(tree: &[u8], at: usize, ws: &mut [u32], st: State, levels: u16, q: PostIdx) -> State
-    ensures { ◌≡◌ {A = Held} (result, ws.new) (R.store_member tree.now levels at q.0 (st, ws.old)) }
+#[tactic(auto, unfolding(crate::specs::Leaves::store_member))]
+fn store_member(t: &Tree<'_>, b: &mut Builder<'_>, at: usize, levels: u16, q: PostIdx)
+    ensures { Did b.old b.new (R.store_member t.now.image.now levels at q.0) }
 {
-    if rule_at(tree, at) != operators::MEMBER_ACCESSOR {
-        return builder::failed(ws, st, Refusal::Failed);
+    if t.rule_at(at) != operators::MEMBER_ACCESSOR {
+        return b.failed(Refusal::Failed);
     }
-    let e = path_end(tree, at, levels);
+    let e = path_end(t, at, levels);
     if e.fine {
-        let s = flag(not_float_only(st), Flags::USES_MEMBERS);
-        return root_var(tree, e.root, at, ws, s, levels, e.count, q);
+        not_float_only(b);
+        flag(b, Flags::USES_MEMBERS);
+        return root_var(t, b, e.root, at, levels, e.count, q);
     }
-    builder::failed(ws, st, Refusal::Failed)
+    b.failed(Refusal::Failed);
 }
 
-fn store_temp(tree: &[u8], at: usize, ws: &mut [u32], st: State, levels: u16, q: PostIdx) -> State
-    ensures { ◌≡◌ {A = Held} (result, ws.new) (R.store_temp tree.now levels at q.0 (st, ws.old)) }
+#[tactic(auto, unfolding(crate::specs::Leaves::store_temp, crate::specs::Payloads::as_name, crate::specs::Payloads::cases))]
+fn store_temp(t: &Tree<'_>, b: &mut Builder<'_>, at: usize, levels: u16, q: PostIdx)
+    ensures { Did b.old b.new (R.store_temp t.now.image.now levels at q.0) }
 {
-    let p = payload::payload_at(tree, at);
+    let p = payload::payload_at(t.image, at);
     let Payload::Temp(n) = p else {
-        return store_member(tree, at, ws, st, levels, q);
+        return store_member(t, b, at, levels, q);
     };
-    let e = interning::temp(ws, st, n);
-    temp_instr(ws, e, Opcode::StoreTemp, 0, q)
+    let index = interning::temp(b, n);
+    instr(b, Opcode::StoreTemp, 0, u32::from(index.0), q);
 }
 
-fn store_var(tree: &[u8], at: usize, ws: &mut [u32], st: State, levels: u16, q: PostIdx) -> State
-    ensures { ◌≡◌ {A = Held} (result, ws.new) (R.store_var tree.now levels at q.0 (st, ws.old)) }
+#[tactic(auto, unfolding(crate::specs::Leaves::store_var, crate::specs::Payloads::as_name, crate::specs::Payloads::cases))]
+fn store_var(t: &Tree<'_>, b: &mut Builder<'_>, at: usize, levels: u16, q: PostIdx)
+    ensures { Did b.old b.new (R.store_var t.now.image.now levels at q.0) }
 {
-    let p = payload::payload_at(tree, at);
+    let p = payload::payload_at(t.image, at);
     let Payload::Entity(n) = p else {
-        return store_temp(tree, at, ws, st, levels, q);
+        return store_temp(t, b, at, levels, q);
     };
-    let e = interning::name(ws, st, n);
-    name_instr(ws, e, Opcode::StoreVar, 0, q)
+    let index = interning::name(b, n);
+    instr(b, Opcode::StoreVar, 0, u32::from(index.0), q);
 }
 
 // A store to the target at `at`, of so many levels, with the post of the node `from`.
-pub(crate) fn store(
-    tree: &[u8],
-    at: usize,
-    from: usize,
-    ws: &mut [u32],
-    st: State,
-    levels: u16,
-) -> State
-    ensures { ◌≡◌ {A = Held} (result, ws.new) (R.store tree.now levels at from (st, ws.old)) }
+#[tactic(auto, unfolding(crate::specs::Leaves::store))]
+pub(crate) fn store(t: &Tree<'_>, b: &mut Builder<'_>, at: usize, from: usize, levels: u16)
+    ensures { Did b.old b.new (R.store t.now.image.now levels at from) }
 {
-    let e = post(tree, from, ws, st);
-    let s = e.state;
-    store_var(tree, at, ws, s, levels, e.index)
+    let q = post(t, b, from);
+    store_var(t, b, at, levels, q);
 }
 
 // Why the target is refused before anything is lowered, if it is.
-pub(crate) fn target_refusal(tree: &[u8], at: usize) -> Option<Refusal>
-    ensures { result ≡ R.target_refusal tree.now at }
+#[tactic(auto, unfolding(crate::specs::Leaves::target_refusal, crate::specs::Payloads::as_name, crate::specs::Payloads::cases))]
+pub(crate) fn target_refusal(t: &Tree<'_>, at: usize) -> Option<Refusal>
+    ensures { result ≡ R.target_refusal t.now.image.now at }
 {
-    let r = rule_at(tree, at);
-    if r == operators::MEMBER_ACCESSOR {
-        return None;
+    match t.rule_at(at) {
+        operators::MEMBER_ACCESSOR => None,
+        operators::ENTITY_VARIABLE => None,
+        operators::POINTER => Some(Refusal::WriteToOtherMob),
+        _ => match payload::payload_at(t.image, at) {
+            Payload::Temp(_) => None,
+            _ => Some(Refusal::Failed),
+        },
     }
-    if r == operators::ENTITY_VARIABLE {
-        return None;
-    }
-    if r == operators::POINTER {
-        return Some(Refusal::WriteToOtherMob);
-    }
-    let p = payload::payload_at(tree, at);
-    let Payload::Temp(_) = p else {
-        return Some(Refusal::Failed);
-    };
-    None
 }

@@ -1,62 +1,53 @@
 // Calls: a call's number and the places of its arguments' starts, and an argument's segment.
-ghost use Rattle.std.specs.Prelude.{◌≡◌, List, ◌+◌, ltb, set, cond};
+ghost use Rattle.std.specs.Prelude.{◌≡◌, ◌+◌, ltb, set, cond};
 ghost use Rattle.workspace.specs.Layout.{ARGUMENTS, ARGUMENTS_ROOM};
-ghost use Rattle.builder.specs.Steps.{Held};
-ghost use Rattle.lowering.specs.Pools.{Found};
-ghost use Rattle.lowering.specs.Kinds.{of_call};
+ghost use Rattle.builder.specs.Done.{Did};
+ghost use Rattle.lowering.specs.Done.{Gave};
 ghost use Rattle.lowering.specs.Parts.{call_begun, argument_closed};
 
-use crate::interning::CallEntry;
 use crate::parts::instr;
 use crate::regions;
-use builder::{State, segments};
-use program::CallIdx;
+use builder::Builder;
+use payload::QueryRef;
 use program::opcodes::Opcode;
-use workspace::counts::sum;
+use program::{CallIdx, PostIdx};
 use workspace::layout;
+use workspace::words::put_word;
 
 // A call takes its number, and places for its arguments' starts.
-pub(crate) fn begin_call(
-    ws: &mut [u32],
-    st: State,
-    index: u16,
-    impl_idx: u8,
-    count: u16,
-) -> CallEntry
-    ensures { ◌≡◌ {A = Found} (of_call result, ws.new) (call_begun index impl_idx count (st, ws.old)) }
+#[tactic(auto, unfolding(crate::specs::Parts::call_begun))]
+pub(crate) fn begin_call(b: &mut Builder<'_>, q: QueryRef, count: u16) -> CallIdx
+    ensures { Gave b.old b.new result.0 (call_begun q.index q.impl_idx count) }
 {
-    let k = st.calls;
-    let first = st.arguments;
-    let entry = [index as u32, impl_idx as u32, count as u32, first as u32];
-    let n = regions::CALLS.append(ws, k, &entry);
-    let mut s = st;
-    s.calls = n;
-    s.arguments = sum(first, count);
-    CallEntry {
-        state: s,
-        index: CallIdx(k),
-    }
+    let k = b.state.calls;
+    let first = b.state.arguments;
+    let entry = [
+        u32::from(q.index),
+        u32::from(q.impl_idx),
+        u32::from(count),
+        u32::from(first),
+    ];
+    b.state.calls = regions::CALLS.append(b.words, k, &entry);
+    b.state.arguments = first.saturating_add(count);
+    CallIdx(k)
 }
 
 fn put_start(ws: &mut [u32], slot: u16, start: u16)
     ensures { ws.new ≡ cond (ltb slot ARGUMENTS_ROOM) (set ws.old (ARGUMENTS + slot) start) ws.old }
 {
     if slot < layout::ARGUMENTS_ROOM {
-        let at = layout::ARGUMENTS + (slot as usize);
-        if at < ws.len() {
-            ws[at] = start as u32;
-        }
+        put_word(ws, layout::ARGUMENTS + usize::from(slot), u32::from(start));
     }
 }
 
 // The segment of an argument is finished, and the caller's is open again.
-pub(crate) fn end_argument(ws: &mut [u32], st: State, base: u16, waiting: bool, slot: u16) -> State
-    ensures { ◌≡◌ {A = Held} (result, ws.new) (argument_closed base waiting slot (st, ws.old)) }
+#[tactic(auto, unfolding(crate::specs::Parts::argument_closed))]
+pub(crate) fn end_argument(b: &mut Builder<'_>, base: u16, waiting: bool, slot: u16)
+    ensures { Did b.old b.new (argument_closed base waiting slot) }
 {
-    let s = instr(ws, st, Opcode::End, 0, 0, 0);
-    segments::resolve_breaks(ws, s, 0, 0, 0);
-    let start = s.finished;
-    let e = segments::close_segment(ws, s, base, waiting);
-    put_start(ws, slot, start);
-    e
+    instr(b, Opcode::End, 0, 0, PostIdx::PLAIN);
+    b.resolve_breaks(0, 0, 0);
+    let start = b.state.finished;
+    b.close_segment(base, waiting);
+    put_start(b.words, slot, start);
 }

@@ -1,51 +1,43 @@
 // Comparisons with a constant.
-ghost use Rattle.std.specs.Prelude.{◌≡◌, List};
 ghost use Rattle.program.specs.Subs.{comparison_of, equality_of};
-ghost use Rattle.builder.specs.Steps.{Held};
+ghost use Rattle.builder.specs.Done.{Did};
 ghost use Rattle.lowering.specs.Rules as R;
 
+use crate::image::Tree;
 use crate::interning;
-use crate::parts::{const_instr, hash_instr};
+use crate::parts::instr;
 use crate::steps::not_float_only;
 use crate::values::{constant_bits, float_bits};
-use builder::State;
+use builder::Builder;
 use payload::Payload;
 use program::PostIdx;
 use program::opcodes::Opcode;
 use program::subs::{Comparison, Equality};
 
-pub(crate) fn compare_const(
-    tree: &[u8],
-    at: usize,
-    ws: &mut [u32],
-    st: State,
-    o: Comparison,
-    q: PostIdx,
-) -> State
-    ensures { ◌≡◌ {A = Held} (result, ws.new) (R.compare_const tree.now at (comparison_of o) q.0 (st, ws.old)) }
+#[tactic(auto, unfolding(crate::specs::Leaves::compare_const))]
+pub(crate) fn compare_const(t: &Tree<'_>, b: &mut Builder<'_>, at: usize, o: Comparison, q: PostIdx)
+    ensures { Did b.old b.new (R.compare_const t.now.image.now at (comparison_of o) q.0) }
 {
-    let p = payload::payload_at(tree, at);
-    let e = interning::konst(ws, st, constant_bits(p));
-    const_instr(ws, e, Opcode::CmpConst, o.number(), q)
+    let p = payload::payload_at(t.image, at);
+    let index = interning::konst(b, constant_bits(p));
+    instr(b, Opcode::CmpConst, o.number(), index.0, q);
 }
 
 // A hash is compared as a hash, anything else as a float.
-pub(crate) fn equal_const(
-    tree: &[u8],
-    at: usize,
-    ws: &mut [u32],
-    st: State,
-    o: Equality,
-    q: PostIdx,
-) -> State
-    ensures { ◌≡◌ {A = Held} (result, ws.new) (R.equal_const tree.now at (equality_of o) q.0 (st, ws.old)) }
+#[tactic(auto, unfolding(crate::specs::Leaves::equal_const, crate::specs::Payloads::as_hash, crate::specs::Payloads::cases))]
+pub(crate) fn equal_const(t: &Tree<'_>, b: &mut Builder<'_>, at: usize, o: Equality, q: PostIdx)
+    ensures { Did b.old b.new (R.equal_const t.now.image.now at (equality_of o) q.0) }
 {
-    let p = payload::payload_at(tree, at);
-    let Payload::Hash(h) = p else {
-        let e = interning::konst(ws, st, float_bits(p));
-        return const_instr(ws, e, Opcode::EqConst, o.number(), q);
-    };
-    let s = not_float_only(st);
-    let e = interning::hash(ws, s, h);
-    hash_instr(ws, e, Opcode::EqHash, o.number(), q)
+    let p = payload::payload_at(t.image, at);
+    match p {
+        Payload::Hash(h) => {
+            not_float_only(b);
+            let index = interning::hash(b, h);
+            instr(b, Opcode::EqHash, o.number(), index.0, q);
+        }
+        _ => {
+            let index = interning::konst(b, float_bits(p));
+            instr(b, Opcode::EqConst, o.number(), index.0, q);
+        }
+    }
 }

@@ -1,120 +1,85 @@
 // Control: breaks, the ends of loops, a ForEach variable.
-ghost use Rattle.std.specs.Prelude.{◌≡◌, List, ℕ};
-ghost use Rattle.builder.specs.Steps.{Held};
-ghost use Rattle.lowering.specs.declared.control.EachVariable.{EachVariable};
-ghost use Rattle.lowering.specs.Pools.{Found};
+ghost use Rattle.std.specs.Prelude.{◌≡◌};
+ghost use Rattle.builder.specs.Done.{Did};
+ghost use Rattle.lowering.specs.Done.{Gave, GaveVariable};
 ghost use Rattle.lowering.specs.Parts.{jump_out, loop_closed, each_closed, each_next};
 ghost use Rattle.lowering.specs.Rules as R;
 
+use crate::image::Tree;
 use crate::interning;
-use crate::interning::Entry;
 use crate::parts::{emit_jump, instr, place_target};
 use answers::refusals::Refusal;
-use builder::{State, segments};
+use builder::Builder;
 use payload::Payload;
 use program::opcodes::Opcode;
-use program::{NameIdx, TempIdx};
-use workspace::counts::one_more;
+use program::{NameIdx, PostIdx, TempIdx};
 
 // A Break or Continue that waits for its loop; Halt where none is open.
-pub(crate) fn jump_out(ws: &mut [u32], st: State, waits: u32, looping: bool) -> State
-    ensures { ◌≡◌ {A = Held} (result, ws.new) (jump_out waits looping (st, ws.old)) }
+#[tactic(auto, unfolding(crate::specs::Parts::jump_out))]
+pub(crate) fn jump_out(b: &mut Builder<'_>, waits: u32, looping: bool)
+    ensures { Did b.old b.new (jump_out waits looping) }
 {
     if looping {
-        return builder::put(ws, st, waits, 0);
+        b.put(waits, 0);
+        return;
     }
-    instr(ws, st, Opcode::Halt, 0, 0, 0)
+    instr(b, Opcode::Halt, 0, 0, PostIdx::PLAIN);
 }
 
 // Behind the body of the loop whose LoopBegin stands at `at`.
-pub(crate) fn close_loop(ws: &mut [u32], st: State, at: u16) -> State
-    ensures { ◌≡◌ {A = Held} (result, ws.new) (loop_closed at (st, ws.old)) }
+#[tactic(auto, unfolding(crate::specs::Parts::loop_closed))]
+pub(crate) fn close_loop(b: &mut Builder<'_>, at: u16)
+    ensures { Did b.old b.new (loop_closed at) }
 {
-    let check = segments::place(st);
-    segments::resolve_breaks(ws, st, one_more(at), check as u32, (check as u32) + 1);
-    let s = instr(ws, st, Opcode::LoopCheck, 0, (at as u32) + 1, 0);
-    let e = instr(ws, s, Opcode::LoopEnd, 0, 0, 0);
-    place_target(ws, e, at)
+    let check = u32::from(b.state.place());
+    b.resolve_breaks(at.saturating_add(1), check, check + 1);
+    instr(b, Opcode::LoopCheck, 0, u32::from(at) + 1, PostIdx::PLAIN);
+    instr(b, Opcode::LoopEnd, 0, 0, PostIdx::PLAIN);
+    place_target(b, at);
 }
 
 // Behind the body of the ForEach whose EachBegin and EachNext stand at `begin` and `next`.
-pub(crate) fn close_each(ws: &mut [u32], st: State, begin: u16, next: u16) -> State
-    ensures { ◌≡◌ {A = Held} (result, ws.new) (each_closed begin next (st, ws.old)) }
+#[tactic(auto, unfolding(crate::specs::Parts::each_closed))]
+pub(crate) fn close_each(b: &mut Builder<'_>, begin: u16, next: u16)
+    ensures { Did b.old b.new (each_closed begin next) }
 {
-    let back = segments::place(st);
-    segments::resolve_breaks(ws, st, one_more(next), next as u32, (back as u32) + 1);
-    let s = instr(ws, st, Opcode::Jump, 0, next as u32, 0);
-    let t = place_target(ws, s, next);
-    let e = instr(ws, t, Opcode::LoopEnd, 0, 0, 0);
-    place_target(ws, e, begin)
+    let back = u32::from(b.state.place());
+    b.resolve_breaks(next.saturating_add(1), u32::from(next), back + 1);
+    instr(b, Opcode::Jump, 0, u32::from(next), PostIdx::PLAIN);
+    place_target(b, next);
+    instr(b, Opcode::LoopEnd, 0, 0, PostIdx::PLAIN);
+    place_target(b, begin);
 }
 
-// A ForEach variable's index, by what it is: a variable, a temp, or none where it is refused.
+// A ForEach variable's index, by what it is: a variable or a temp.
 #[derive(Clone, Copy, Drop)]
 pub enum EachIndex {
     Name(NameIdx),
     Temp(TempIdx),
-    Refused,
 }
 
-#[derive(Drop)]
-pub struct EachVariable {
-    pub state: State,
-    pub index: EachIndex,
-}
-
-// The variable's EachNext, whose target is not known yet; a refused one has none.
-pub(crate) fn each_next(ws: &mut [u32], st: State, index: EachIndex) -> Entry
-    ensures { ◌≡◌ {A = Found} (result, ws.new) (each_next index (st, ws.old)) }
+// The variable's EachNext, whose target is not known yet.
+#[tactic(auto, unfolding(crate::specs::Parts::each_next))]
+pub(crate) fn each_next(b: &mut Builder<'_>, index: EachIndex) -> u16
+    ensures { Gave b.old b.new result (each_next index) }
 {
     match index {
-        EachIndex::Name(n) => emit_jump(ws, st, Opcode::EachNextVar, 0, n.0),
-        EachIndex::Temp(n) => emit_jump(ws, st, Opcode::EachNextTemp, 0, n.0),
-        EachIndex::Refused => Entry {
-            state: st,
-            index: segments::place(st),
-        },
+        EachIndex::Name(n) => emit_jump(b, Opcode::EachNextVar, 0, n.0),
+        EachIndex::Temp(n) => emit_jump(b, Opcode::EachNextTemp, 0, n.0),
     }
 }
 
-fn no_variable(ws: &mut [u32], st: State) -> EachVariable
-    ensures { ◌≡◌ {A = EachVariable × List ℕ} (result, ws.new) (R.no_variable (st, ws.old)) }
+// A ForEach variable, or none where it is refused.
+#[tactic(auto, unfolding(crate::specs::Leaves::variable, crate::specs::Leaves::variable_temp, crate::specs::Payloads::as_name, crate::specs::Payloads::cases))]
+pub(crate) fn variable(t: &Tree<'_>, b: &mut Builder<'_>, at: usize) -> Option<EachIndex>
+    ensures { GaveVariable b.old b.new result (R.variable t.now.image.now at) }
 {
-    let s = builder::failed(ws, st, Refusal::Failed);
-    EachVariable {
-        state: s,
-        index: EachIndex::Refused,
-    }
-}
-
-fn variable_temp(tree: &[u8], at: usize, ws: &mut [u32], st: State) -> EachVariable
-    ensures { ◌≡◌ {A = EachVariable × List ℕ} (result, ws.new) (R.variable_temp tree.now at (st, ws.old)) }
-{
-    let p = payload::payload_at(tree, at);
-    let Payload::Temp(n) = p else {
-        return no_variable(ws, st);
-    };
-    let e = interning::temp(ws, st, n);
-    let s = e.state;
-    let k = e.index;
-    EachVariable {
-        state: s,
-        index: EachIndex::Temp(k),
-    }
-}
-
-pub(crate) fn variable(tree: &[u8], at: usize, ws: &mut [u32], st: State) -> EachVariable
-    ensures { ◌≡◌ {A = EachVariable × List ℕ} (result, ws.new) (R.variable tree.now at (st, ws.old)) }
-{
-    let p = payload::payload_at(tree, at);
-    let Payload::Entity(n) = p else {
-        return variable_temp(tree, at, ws, st);
-    };
-    let e = interning::name(ws, st, n);
-    let s = e.state;
-    let k = e.index;
-    EachVariable {
-        state: s,
-        index: EachIndex::Name(k),
+    match payload::payload_at(t.image, at) {
+        Payload::Entity(n) => Some(EachIndex::Name(interning::name(b, n))),
+        Payload::Temp(n) => Some(EachIndex::Temp(interning::temp(b, n))),
+        _ => {
+            b.failed(Refusal::Failed);
+            None
+        }
     }
 }

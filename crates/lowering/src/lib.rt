@@ -1,16 +1,15 @@
 // The lowering: an expression picks its operator's rule, and that rule reads its operands as expressions; the remaining levels fall.
-// The table of rules is laid out once for a tree, and lent.
 #![tactic(auto)]
 
 mod assign;
 mod calls;
 mod comparisons;
 mod control;
+mod image;
 mod interning;
 mod parts;
 mod pools;
 mod regions;
-mod rules;
 mod steps;
 mod values;
 
@@ -21,40 +20,41 @@ ghost use Rattle.program.specs.Image.{bit};
 ghost use Rattle.program.specs.Opcodes.{number_of};
 ghost use Rattle.program.specs.Subs.{comparison_of, equality_of, divisor_of};
 ghost use Rattle.builder.specs.Steps.{Held};
+ghost use Rattle.builder.specs.Done.{Did};
 ghost use Rattle.lowering.specs.Parts.{each_next};
 ghost use Rattle.lowering.specs.Rules as R;
 
 use answers::refusals::Refusal;
 use ast::{RuleTable, header, operators};
-use builder::{State, segments};
+use builder::{Builder, State};
 use code::segment;
 use control::EachIndex;
 use depth::Depth;
+use image::Tree;
 use parts::{emit_jump, instr, place_target, post, post_instr, put_post};
 use payload::{NameRef, Payload};
 use program::opcodes::Opcode;
 use program::subs::{Comparison, Divisor, Equality};
 use program::{Depths, Flags, PostIdx};
 use steps::{flag, not_float_only, pop};
-use workspace::counts::one_more;
 
 // The tree of an image as the main code, its End, and all that it needs in the workspace.
+#[tactic(auto, unfolding(crate::specs::Rules::lowered))]
 pub fn lower(tree: &[u8], ws: &mut [u32]) -> State
     ensures { ◌≡◌ {A = Held} (result, ws.new) (R.lowered tree.now ws.old) }
 {
-    let table = RuleTable::new();
-    let s = expr(
-        tree,
-        header::ROOT,
-        ws,
-        start(),
-        false,
-        header::LEVELS,
-        &table,
-    );
-    let e = instr(ws, s, Opcode::End, 0, 0, 0);
-    segments::resolve_breaks(ws, e, 0, 0, 0);
-    e
+    let t = Tree {
+        image: tree,
+        rules: RuleTable::new(),
+    };
+    let mut b = Builder {
+        state: start(),
+        words: ws,
+    };
+    expr(&t, &mut b, header::ROOT, false, header::LEVELS);
+    instr(&mut b, Opcode::End, 0, 0, PostIdx::PLAIN);
+    b.resolve_breaks(0, 0, 0);
+    b.state
 }
 
 fn nothing_open() -> Depths
@@ -97,114 +97,79 @@ fn start() -> State
 }
 
 // A rule without operands, or the refusal of any other.
-fn leaf(tree: &[u8], at: usize, ws: &mut [u32], st: State, looping: bool, rule: u8) -> State
-    ensures { ◌≡◌ {A = Held} (result, ws.new) (R.leaf tree.now at looping rule (st, ws.old)) }
+#[tactic(auto, unfolding(crate::specs::Leaves::leaf, crate::specs::Leaves::among))]
+fn leaf(t: &Tree<'_>, b: &mut Builder<'_>, at: usize, looping: bool, rule: u8)
+    ensures { Did b.old b.new (R.leaf t.now.image.now at looping rule) }
 {
     match rule {
-        operators::ARRAY_VARIABLE => builder::failed(ws, st, Refusal::UsesArrays),
-        operators::EXPRESSION_ARRAY => builder::failed(ws, st, Refusal::UsesArrays),
-        operators::GEOMETRY_VARIABLE => builder::failed(ws, st, Refusal::UsesResources),
-        operators::MATERIAL_VARIABLE => builder::failed(ws, st, Refusal::UsesResources),
-        operators::TEXTURE_VARIABLE => builder::failed(ws, st, Refusal::UsesResources),
-        operators::FLOAT => values::float(tree, at, ws, st),
-        operators::STRING_LITERAL => values::string_literal(tree, at, ws, st),
-        operators::GEOMETRY => values::resource(tree, at, ws, st),
-        operators::MATERIAL => values::resource(tree, at, ws, st),
-        operators::TEXTURE => values::resource(tree, at, ws, st),
-        operators::THIS => put_post(tree, at, ws, st, Opcode::This, 0, 0),
-        operators::ENTITY_VARIABLE => values::load(tree, at, ws, st),
-        operators::TEMP_VARIABLE => values::load(tree, at, ws, st),
-        operators::CONTEXT_VARIABLE => values::load(tree, at, ws, st),
-        operators::BREAK => control::jump_out(ws, st, segment::BREAK, looping),
-        operators::CONTINUE => control::jump_out(ws, st, segment::CONTINUE, looping),
-        operators::RETURN => values::generic_constant(tree, at, ws, st),
-        operators::PI => values::generic_constant(tree, at, ws, st),
-        operators::LEFT_BRACE => values::generic_constant(tree, at, ws, st),
-        operators::RIGHT_BRACE => values::generic_constant(tree, at, ws, st),
-        operators::RIGHT_BRACKET => values::generic_constant(tree, at, ws, st),
-        operators::RIGHT_PARENTHESIS => values::generic_constant(tree, at, ws, st),
-        operators::CONDITIONAL_ELSE => values::generic_constant(tree, at, ws, st),
-        operators::COMMA => values::generic_constant(tree, at, ws, st),
-        _ => builder::failed(ws, st, Refusal::Failed),
+        operators::ARRAY_VARIABLE => b.failed(Refusal::UsesArrays),
+        operators::EXPRESSION_ARRAY => b.failed(Refusal::UsesArrays),
+        operators::GEOMETRY_VARIABLE => b.failed(Refusal::UsesResources),
+        operators::MATERIAL_VARIABLE => b.failed(Refusal::UsesResources),
+        operators::TEXTURE_VARIABLE => b.failed(Refusal::UsesResources),
+        operators::FLOAT => values::float(t, b, at),
+        operators::STRING_LITERAL => values::string_literal(t, b, at),
+        operators::GEOMETRY => values::resource(t, b, at),
+        operators::MATERIAL => values::resource(t, b, at),
+        operators::TEXTURE => values::resource(t, b, at),
+        operators::THIS => put_post(t, b, at, Opcode::This, 0, 0),
+        operators::ENTITY_VARIABLE => values::load(t, b, at),
+        operators::TEMP_VARIABLE => values::load(t, b, at),
+        operators::CONTEXT_VARIABLE => values::load(t, b, at),
+        operators::BREAK => control::jump_out(b, segment::BREAK, looping),
+        operators::CONTINUE => control::jump_out(b, segment::CONTINUE, looping),
+        operators::RETURN => values::generic_constant(t, b, at),
+        operators::PI => values::generic_constant(t, b, at),
+        operators::LEFT_BRACE => values::generic_constant(t, b, at),
+        operators::RIGHT_BRACE => values::generic_constant(t, b, at),
+        operators::RIGHT_BRACKET => values::generic_constant(t, b, at),
+        operators::RIGHT_PARENTHESIS => values::generic_constant(t, b, at),
+        operators::CONDITIONAL_ELSE => values::generic_constant(t, b, at),
+        operators::COMMA => values::generic_constant(t, b, at),
+        _ => b.failed(Refusal::Failed),
     }
 }
 
 // The node at `at` as an expression.
 #[cycle(expression)]
-fn expr(
-    tree: &[u8],
-    at: usize,
-    ws: &mut [u32],
-    st: State,
-    looping: bool,
-    levels: u16,
-    table: &RuleTable,
-) -> State
-    ensures { ◌≡◌ {A = Held} (result, ws.new) (R.expr tree.now levels at looping (st, ws.old)) }
+#[tactic(auto, unfolding(crate::specs::Rules::expr, crate::specs::Rules::branch, crate::specs::Leaves::among))]
+fn expr(t: &Tree<'_>, b: &mut Builder<'_>, at: usize, looping: bool, levels: u16)
+    ensures { Did b.old b.new (R.expr t.now.image.now levels at looping) }
 {
     if levels == 0 {
-        return builder::failed(ws, st, Refusal::Failed);
+        return b.failed(Refusal::Failed);
     }
-    let rule = rules::rule_at(tree, at, table);
+    let rule = t.rule_at(at);
     let n = levels - 1;
     match rule {
-        operators::ARRAY => element(tree, at, ws, st, looping, n, table),
-        operators::MEMBER_ACCESSOR => member(tree, at, ws, st, looping, n, table),
-        operators::QUERY_FUNCTION => query(tree, at, ws, st, n, table),
-        operators::LESS_THAN => compare(tree, at, ws, st, Comparison::Lt, looping, n, table),
-        operators::LESS_EQUAL => compare(tree, at, ws, st, Comparison::Le, looping, n, table),
-        operators::GREATER_EQUAL => compare(tree, at, ws, st, Comparison::Ge, looping, n, table),
-        operators::GREATER_THAN => compare(tree, at, ws, st, Comparison::Gt, looping, n, table),
-        operators::LOGICAL_EQUAL => equal(tree, at, ws, st, Equality::Eq, looping, n, table),
-        operators::LOGICAL_NOT_EQUAL => equal(tree, at, ws, st, Equality::Ne, looping, n, table),
-        operators::LOGICAL_AND => logic(
-            tree,
-            at,
-            ws,
-            st,
-            Opcode::AndStep,
-            Opcode::AndLast,
-            looping,
-            n,
-            table,
-        ),
-        operators::LOGICAL_OR => logic(
-            tree,
-            at,
-            ws,
-            st,
-            Opcode::OrStep,
-            Opcode::OrLast,
-            looping,
-            n,
-            table,
-        ),
-        operators::NULL_COALESCING => coalesce(tree, at, ws, st, looping, n, table),
-        operators::CONDITIONAL => conditional(tree, at, ws, st, looping, n, table),
-        operators::SEMICOLON => statements(tree, at, ws, st, looping, n, table),
-        operators::LOOP => repeat(tree, at, ws, st, looping, n, table),
-        operators::FOR_EACH => for_each(tree, at, ws, st, looping, n, table),
-        operators::ASSIGNMENT => assignment(tree, at, ws, st, looping, n, table),
-        operators::POINTER => pointer(tree, at, ws, st, looping, n, table),
-        operators::LEFT_BRACKET => par(tree, at, ws, st, looping, n, table),
-        operators::LEFT_PARENTHESIS => par(tree, at, ws, st, looping, n, table),
-        operators::NEGATE => unary(tree, at, ws, st, Opcode::Negate, looping, n, table),
-        operators::LOGICAL_NOT => unary(tree, at, ws, st, Opcode::Not, looping, n, table),
-        operators::ADD => add(tree, at, ws, st, looping, n, table),
-        operators::MUL => mul(tree, at, ws, st, looping, n, table),
-        operators::DIV => div(tree, at, ws, st, looping, n, table),
-        operators::HOST_MATH => host_math(tree, at, ws, st, 0, looping, n, table),
-        operators::HOST_MATH_VOLATILE => host_math(
-            tree,
-            at,
-            ws,
-            st,
-            Flags::RANDOM,
-            looping,
-            n,
-            table,
-        ),
-        _ => leaf(tree, at, ws, st, looping, rule),
+        operators::ARRAY => element(t, b, at, looping, n),
+        operators::MEMBER_ACCESSOR => member(t, b, at, looping, n),
+        operators::QUERY_FUNCTION => query(t, b, at, n),
+        operators::LESS_THAN => compare(t, b, at, Comparison::Lt, looping, n),
+        operators::LESS_EQUAL => compare(t, b, at, Comparison::Le, looping, n),
+        operators::GREATER_EQUAL => compare(t, b, at, Comparison::Ge, looping, n),
+        operators::GREATER_THAN => compare(t, b, at, Comparison::Gt, looping, n),
+        operators::LOGICAL_EQUAL => equal(t, b, at, Equality::Eq, looping, n),
+        operators::LOGICAL_NOT_EQUAL => equal(t, b, at, Equality::Ne, looping, n),
+        operators::LOGICAL_AND => logic(t, b, at, Opcode::AndStep, Opcode::AndLast, looping, n),
+        operators::LOGICAL_OR => logic(t, b, at, Opcode::OrStep, Opcode::OrLast, looping, n),
+        operators::NULL_COALESCING => coalesce(t, b, at, looping, n),
+        operators::CONDITIONAL => conditional(t, b, at, looping, n),
+        operators::SEMICOLON => statements(t, b, at, looping, n),
+        operators::LOOP => repeat(t, b, at, looping, n),
+        operators::FOR_EACH => for_each(t, b, at, looping, n),
+        operators::ASSIGNMENT => assignment(t, b, at, looping, n),
+        operators::POINTER => pointer(t, b, at, looping, n),
+        operators::LEFT_BRACKET => par(t, b, at, looping, n),
+        operators::LEFT_PARENTHESIS => par(t, b, at, looping, n),
+        operators::NEGATE => unary(t, b, at, Opcode::Negate, looping, n),
+        operators::LOGICAL_NOT => unary(t, b, at, Opcode::Not, looping, n),
+        operators::ADD => add(t, b, at, looping, n),
+        operators::MUL => mul(t, b, at, looping, n),
+        operators::DIV => div(t, b, at, looping, n),
+        operators::HOST_MATH => host_math(t, b, at, 0, looping, n),
+        operators::HOST_MATH_VOLATILE => host_math(t, b, at, Flags::RANDOM, looping, n),
+        _ => leaf(t, b, at, looping, rule),
     }
 }
 
@@ -212,471 +177,299 @@ fn expr(
 
 // array_element in the Rust: an element of an array variable.
 #[cycle(expression)]
-fn element(
-    tree: &[u8],
-    at: usize,
-    ws: &mut [u32],
-    st: State,
-    looping: bool,
-    levels: u16,
-    table: &RuleTable,
-) -> State
-    ensures { ◌≡◌ {A = Held} (result, ws.new) (R.under tree.now levels (R.array_element tree.now) at looping (st, ws.old)) }
+#[tactic(auto, unfolding(crate::specs::Rules::array_element, crate::specs::Payloads::as_name, crate::specs::Payloads::cases))]
+fn element(t: &Tree<'_>, b: &mut Builder<'_>, at: usize, looping: bool, levels: u16)
+    ensures { Did b.old b.new (R.under t.now.image.now levels (R.array_element t.now.image.now) at looping) }
 {
-    if wire::get_u8(tree, 0, header::ARRAYS) != 1 {
-        return builder::failed(ws, st, Refusal::UsesArrays);
+    if wire::get_u8(t.image, 0, header::ARRAYS) != 1 {
+        return b.failed(Refusal::UsesArrays);
     }
-    if tree::count_at(tree, at) != 1 {
-        return builder::failed(ws, st, Refusal::Failed);
+    if tree::count_at(t.image, at) != 1 {
+        return b.failed(Refusal::Failed);
     }
-    let p = payload::payload_at(tree, at);
+    let p = payload::payload_at(t.image, at);
     let Payload::ArrayVariable(n) = p else {
-        return builder::failed(ws, st, Refusal::Failed);
+        return b.failed(Refusal::Failed);
     };
-    let s = not_float_only(st);
-    let t = expr(
-        tree,
-        tree::first_at(tree, at),
-        ws,
-        s,
-        looping,
-        levels,
-        table,
-    );
-    values::array_put(tree, at, ws, t, n)
+    not_float_only(b);
+    expr(t, b, tree::first_at(t.image, at), looping, levels);
+    values::array_put(t, b, at, n);
 }
 
 // The node at `at` as the base of a member path whose last member is `last`.
 #[cycle(expression)]
-fn chain(
-    tree: &[u8],
-    at: usize,
-    ws: &mut [u32],
-    st: State,
-    last: NameRef,
-    looping: bool,
-    levels: u16,
-    table: &RuleTable,
-) -> State
-    ensures { ◌≡◌ {A = Held} (result, ws.new) (R.chain tree.now levels at last looping (st, ws.old)) }
+#[tactic(auto, unfolding(crate::specs::Rules::chain, crate::specs::Rules::chained))]
+fn chain(t: &Tree<'_>, b: &mut Builder<'_>, at: usize, last: NameRef, looping: bool, levels: u16)
+    ensures { Did b.old b.new (R.chain t.now.image.now levels at last looping) }
 {
     if levels == 0 {
-        return builder::failed(ws, st, Refusal::Failed);
+        return b.failed(Refusal::Failed);
     }
-    if rules::rule_at(tree, at, table) != operators::MEMBER_ACCESSOR {
-        return expr(tree, at, ws, st, looping, levels, table);
+    if t.rule_at(at) != operators::MEMBER_ACCESSOR {
+        return expr(t, b, at, looping, levels);
     }
-    if tree::count_at(tree, at) == 0 {
-        return builder::failed(ws, st, Refusal::Failed);
+    if tree::count_at(t.image, at) == 0 {
+        return b.failed(Refusal::Failed);
     }
-    let s = chain(
-        tree,
-        tree::first_at(tree, at),
-        ws,
-        st,
-        last,
-        looping,
-        levels - 1,
-        table,
-    );
-    values::member_put(tree, at, ws, s, last)
+    chain(t, b, tree::first_at(t.image, at), last, looping, levels - 1);
+    values::member_put(t, b, at, last);
 }
 
 // member_read in the Rust: a member of the value of a base.
 #[cycle(expression)]
-fn member(
-    tree: &[u8],
-    at: usize,
-    ws: &mut [u32],
-    st: State,
-    looping: bool,
-    levels: u16,
-    table: &RuleTable,
-) -> State
-    ensures { ◌≡◌ {A = Held} (result, ws.new) (R.under tree.now levels (R.member_read tree.now) at looping (st, ws.old)) }
+#[tactic(auto, unfolding(crate::specs::Rules::member_read, crate::specs::Rules::chained, crate::specs::Payloads::as_name, crate::specs::Payloads::cases))]
+fn member(t: &Tree<'_>, b: &mut Builder<'_>, at: usize, looping: bool, levels: u16)
+    ensures { Did b.old b.new (R.under t.now.image.now levels (R.member_read t.now.image.now) at looping) }
 {
-    let s = flag(not_float_only(st), Flags::USES_MEMBERS);
-    let p = payload::payload_at(tree, at);
+    not_float_only(b);
+    flag(b, Flags::USES_MEMBERS);
+    let p = payload::payload_at(t.image, at);
     let Payload::Member(last) = p else {
-        return builder::failed(ws, s, Refusal::Failed);
+        return b.failed(Refusal::Failed);
     };
-    if tree::count_at(tree, at) == 0 {
-        return builder::failed(ws, s, Refusal::Failed);
+    if tree::count_at(t.image, at) == 0 {
+        return b.failed(Refusal::Failed);
     }
-    let t = chain(
-        tree,
-        tree::first_at(tree, at),
-        ws,
-        s,
-        last,
-        looping,
-        levels,
-        table,
-    );
-    values::member_put(tree, at, ws, t, last)
+    chain(t, b, tree::first_at(t.image, at), last, looping, levels);
+    values::member_put(t, b, at, last);
 }
 
 #[cycle(expression)]
-fn assignment(
-    tree: &[u8],
-    at: usize,
-    ws: &mut [u32],
-    st: State,
-    looping: bool,
-    levels: u16,
-    table: &RuleTable,
-) -> State
-    ensures { ◌≡◌ {A = Held} (result, ws.new) (R.under tree.now levels (R.assignment tree.now) levels at looping (st, ws.old)) }
+#[tactic(auto, unfolding(crate::specs::Rules::assignment))]
+fn assignment(t: &Tree<'_>, b: &mut Builder<'_>, at: usize, looping: bool, levels: u16)
+    ensures { Did b.old b.new (R.under t.now.image.now levels (R.assignment t.now.image.now) levels at looping) }
 {
-    let count = tree::count_at(tree, at);
+    let count = tree::count_at(t.image, at);
     if count == 0 {
-        return builder::failed(ws, st, Refusal::Failed);
+        return b.failed(Refusal::Failed);
     }
-    let target = tree::first_at(tree, at);
-    if let Some(why) = assign::target_refusal(tree, target) {
-        return builder::failed(ws, st, why);
+    let target = tree::first_at(t.image, at);
+    if let Some(why) = assign::target_refusal(t, target) {
+        return b.failed(why);
     }
-    let s = flag(st, Flags::HAS_ASSIGNMENT);
-    let t = rhs(tree, at, target, ws, s, looping, levels, table);
-    assign::store(tree, target, at, ws, t, levels)
+    flag(b, Flags::HAS_ASSIGNMENT);
+    rhs(t, b, at, target, looping, levels);
+    assign::store(t, b, target, at, levels);
 }
 
 // The second child, or the node's constant.
 #[cycle(expression)]
-fn rhs(
-    tree: &[u8],
-    at: usize,
-    first: usize,
-    ws: &mut [u32],
-    st: State,
-    looping: bool,
-    levels: u16,
-    table: &RuleTable,
-) -> State
-    ensures { ◌≡◌ {A = Held} (result, ws.new) (R.under tree.now levels (R.value tree.now) at first looping (st, ws.old)) }
+#[tactic(auto, unfolding(crate::specs::Rules::value))]
+fn rhs(t: &Tree<'_>, b: &mut Builder<'_>, at: usize, first: usize, looping: bool, levels: u16)
+    ensures { Did b.old b.new (R.under t.now.image.now levels (R.value t.now.image.now) at first looping) }
 {
-    if tree::count_at(tree, at) == 1 {
-        let p = payload::payload_at(tree, at);
-        return interning::constant(ws, st, values::constant_bits(p));
+    if tree::count_at(t.image, at) == 1 {
+        let p = payload::payload_at(t.image, at);
+        return interning::constant(b, values::constant_bits(p));
     }
-    expr(
-        tree,
-        tree::next_at(tree, first),
-        ws,
-        st,
-        looping,
-        levels,
-        table,
-    )
+    expr(t, b, tree::next_at(t.image, first), looping, levels);
 }
 
 // ---- logic
 
 // Two operands with a Push between them, the one at `a` first.
 #[cycle(expression)]
-fn binary(
-    tree: &[u8],
-    a: usize,
-    ws: &mut [u32],
-    st: State,
-    looping: bool,
-    levels: u16,
-    table: &RuleTable,
-) -> State
-    ensures { ◌≡◌ {A = Held} (result, ws.new) (R.under tree.now levels (R.binary tree.now) a looping (st, ws.old)) }
+#[tactic(auto, unfolding(crate::specs::Rules::binary))]
+fn binary(t: &Tree<'_>, b: &mut Builder<'_>, a: usize, looping: bool, levels: u16)
+    ensures { Did b.old b.new (R.under t.now.image.now levels (R.binary t.now.image.now) a looping) }
 {
-    let s = expr(tree, a, ws, st, looping, levels, table);
-    let t = builder::push(s);
-    expr(tree, tree::next_at(tree, a), ws, t, looping, levels, table)
+    expr(t, b, a, looping, levels);
+    b.push();
+    expr(t, b, tree::next_at(t.image, a), looping, levels);
 }
 
 #[cycle(expression)]
-fn compare(
-    tree: &[u8],
-    at: usize,
-    ws: &mut [u32],
-    st: State,
-    o: Comparison,
-    looping: bool,
-    levels: u16,
-    table: &RuleTable,
-) -> State
-    ensures { ◌≡◌ {A = Held} (result, ws.new) (R.under tree.now levels (R.compare tree.now) (comparison_of o) at looping (st, ws.old)) }
+#[tactic(auto, unfolding(crate::specs::Rules::compare))]
+fn compare(t: &Tree<'_>, b: &mut Builder<'_>, at: usize, o: Comparison, looping: bool, levels: u16)
+    ensures { Did b.old b.new (R.under t.now.image.now levels (R.compare t.now.image.now) (comparison_of o) at looping) }
 {
-    let count = tree::count_at(tree, at);
+    let count = tree::count_at(t.image, at);
     if count == 0 {
-        return builder::failed(ws, st, Refusal::Failed);
+        return b.failed(Refusal::Failed);
     }
-    let e = post(tree, at, ws, st);
-    let s = e.state;
-    let q = e.index;
-    let a = tree::first_at(tree, at);
+    let q = post(t, b, at);
+    let a = tree::first_at(t.image, at);
     if count == 1 {
-        let t = expr(tree, a, ws, s, looping, levels, table);
-        return comparisons::compare_const(tree, at, ws, t, o, q);
+        expr(t, b, a, looping, levels);
+        return comparisons::compare_const(t, b, at, o, q);
     }
-    let t = binary(tree, a, ws, s, looping, levels, table);
-    let u = instr(ws, t, Opcode::Cmp, o.number(), 0, q.0);
-    pop(u, 1)
+    binary(t, b, a, looping, levels);
+    instr(b, Opcode::Cmp, o.number(), 0, q);
+    pop(b, 1);
 }
 
 #[cycle(expression)]
-fn equal(
-    tree: &[u8],
-    at: usize,
-    ws: &mut [u32],
-    st: State,
-    o: Equality,
-    looping: bool,
-    levels: u16,
-    table: &RuleTable,
-) -> State
-    ensures { ◌≡◌ {A = Held} (result, ws.new) (R.under tree.now levels (R.equal tree.now) (equality_of o) at looping (st, ws.old)) }
+#[tactic(auto, unfolding(crate::specs::Rules::equal))]
+fn equal(t: &Tree<'_>, b: &mut Builder<'_>, at: usize, o: Equality, looping: bool, levels: u16)
+    ensures { Did b.old b.new (R.under t.now.image.now levels (R.equal t.now.image.now) (equality_of o) at looping) }
 {
-    let count = tree::count_at(tree, at);
+    let count = tree::count_at(t.image, at);
     if count == 0 {
-        return builder::failed(ws, st, Refusal::Failed);
+        return b.failed(Refusal::Failed);
     }
-    let e = post(tree, at, ws, st);
-    let s = e.state;
-    let q = e.index;
-    let a = tree::first_at(tree, at);
+    let q = post(t, b, at);
+    let a = tree::first_at(t.image, at);
     if count == 1 {
-        let t = expr(tree, a, ws, s, looping, levels, table);
-        return comparisons::equal_const(tree, at, ws, t, o, q);
+        expr(t, b, a, looping, levels);
+        return comparisons::equal_const(t, b, at, o, q);
     }
-    let t = binary(tree, a, ws, s, looping, levels, table);
-    let u = instr(ws, t, Opcode::Eq, o.number(), 0, q.0);
-    pop(u, 1)
+    binary(t, b, a, looping, levels);
+    instr(b, Opcode::Eq, o.number(), 0, q);
+    pop(b, 1);
 }
 
 // `&&` and `||`; every operand but the last can lead behind the last.
 #[cycle(expression)]
+#[tactic(auto, unfolding(crate::specs::Rules::logic))]
 fn logic(
-    tree: &[u8],
+    t: &Tree<'_>,
+    b: &mut Builder<'_>,
     at: usize,
-    ws: &mut [u32],
-    st: State,
     step: Opcode,
     last: Opcode,
     looping: bool,
     levels: u16,
-    table: &RuleTable,
-) -> State
-    ensures { ◌≡◌ {A = Held} (result, ws.new) (R.under tree.now levels (R.logic tree.now) (number_of step) (number_of last) at looping (st, ws.old)) }
+)
+    ensures { Did b.old b.new (R.under t.now.image.now levels (R.logic t.now.image.now) (number_of step) (number_of last) at looping) }
 {
-    let count = tree::count_at(tree, at);
+    let count = tree::count_at(t.image, at);
     if count == 0 {
-        return builder::failed(ws, st, Refusal::Failed);
+        return b.failed(Refusal::Failed);
     }
-    let e = post(tree, at, ws, st);
-    let s = e.state;
-    let q = e.index;
+    let q = post(t, b, at);
     ops(
-        tree,
-        tree::first_at(tree, at),
-        ws,
-        s,
+        t,
+        b,
+        tree::first_at(t.image, at),
         step,
         last,
         q,
         count - 1,
         looping,
         levels,
-        table,
-    )
+    );
 }
 
 // `m` steps and the last operand, from the operand at `a` on; every step leads behind the last.
 #[cycle(expression)]
+#[tactic(auto, unfolding(crate::specs::Rules::operands))]
 fn ops(
-    tree: &[u8],
+    t: &Tree<'_>,
+    b: &mut Builder<'_>,
     a: usize,
-    ws: &mut [u32],
-    st: State,
     step: Opcode,
     last: Opcode,
     q: PostIdx,
     m: u16,
     looping: bool,
     levels: u16,
-    table: &RuleTable,
-) -> State
-    ensures { ◌≡◌ {A = Held} (result, ws.new) (R.under tree.now levels (R.operands tree.now) (number_of step) (number_of last) q.0 m a looping (st, ws.old)) }
+)
+    ensures { Did b.old b.new (R.under t.now.image.now levels (R.operands t.now.image.now) (number_of step) (number_of last) q.0 m a looping) }
 {
-    let s = expr(tree, a, ws, st, looping, levels, table);
+    expr(t, b, a, looping, levels);
     let alone = m == 0;
     if alone {
-        return instr(ws, s, last, 0, 0, q.0);
+        return instr(b, last, 0, 0, q);
     }
-    let e = emit_jump(ws, s, step, 0, q.0);
-    let t = e.state;
-    let u = ops(
-        tree,
-        tree::next_at(tree, a),
-        ws,
+    let e = emit_jump(b, step, 0, q.0);
+    ops(
         t,
+        b,
+        tree::next_at(t.image, a),
         step,
         last,
         q,
         m - 1,
         looping,
         levels,
-        table,
     );
-    place_target(ws, u, e.index)
+    place_target(b, e);
 }
 
 // ---- arithmetic
 
 // Brackets: the first child.
 #[cycle(expression)]
-fn par(
-    tree: &[u8],
-    at: usize,
-    ws: &mut [u32],
-    st: State,
-    looping: bool,
-    levels: u16,
-    table: &RuleTable,
-) -> State
-    ensures { ◌≡◌ {A = Held} (result, ws.new) (R.under tree.now levels (R.bracket tree.now) at looping (st, ws.old)) }
+#[tactic(auto, unfolding(crate::specs::Rules::bracket))]
+fn par(t: &Tree<'_>, b: &mut Builder<'_>, at: usize, looping: bool, levels: u16)
+    ensures { Did b.old b.new (R.under t.now.image.now levels (R.bracket t.now.image.now) at looping) }
 {
-    if tree::count_at(tree, at) == 0 {
-        return builder::failed(ws, st, Refusal::Failed);
+    if tree::count_at(t.image, at) == 0 {
+        return b.failed(Refusal::Failed);
     }
-    expr(
-        tree,
-        tree::first_at(tree, at),
-        ws,
-        st,
-        looping,
-        levels,
-        table,
-    )
+    expr(t, b, tree::first_at(t.image, at), looping, levels);
 }
 
 #[cycle(expression)]
-fn unary(
-    tree: &[u8],
-    at: usize,
-    ws: &mut [u32],
-    st: State,
-    op: Opcode,
-    looping: bool,
-    levels: u16,
-    table: &RuleTable,
-) -> State
-    ensures { ◌≡◌ {A = Held} (result, ws.new) (R.under tree.now levels (R.unary tree.now) (number_of op) at looping (st, ws.old)) }
+#[tactic(auto, unfolding(crate::specs::Rules::unary))]
+fn unary(t: &Tree<'_>, b: &mut Builder<'_>, at: usize, op: Opcode, looping: bool, levels: u16)
+    ensures { Did b.old b.new (R.under t.now.image.now levels (R.unary t.now.image.now) (number_of op) at looping) }
 {
-    if tree::count_at(tree, at) == 0 {
-        return builder::failed(ws, st, Refusal::Failed);
+    if tree::count_at(t.image, at) == 0 {
+        return b.failed(Refusal::Failed);
     }
-    let s = expr(
-        tree,
-        tree::first_at(tree, at),
-        ws,
-        st,
-        looping,
-        levels,
-        table,
-    );
-    put_post(tree, at, ws, s, op, 0, 0)
+    expr(t, b, tree::first_at(t.image, at), looping, levels);
+    put_post(t, b, at, op, 0, 0);
 }
 
 // The n-ary +: the first term pushed, every further one added to it, the last with the post.
 #[cycle(expression)]
-fn add(
-    tree: &[u8],
-    at: usize,
-    ws: &mut [u32],
-    st: State,
-    looping: bool,
-    levels: u16,
-    table: &RuleTable,
-) -> State
-    ensures { ◌≡◌ {A = Held} (result, ws.new) (R.under tree.now levels (R.add tree.now) at looping (st, ws.old)) }
+#[tactic(auto, unfolding(crate::specs::Rules::add))]
+fn add(t: &Tree<'_>, b: &mut Builder<'_>, at: usize, looping: bool, levels: u16)
+    ensures { Did b.old b.new (R.under t.now.image.now levels (R.add t.now.image.now) at looping) }
 {
-    let count = tree::count_at(tree, at);
+    let count = tree::count_at(t.image, at);
     if count == 0 {
-        return builder::failed(ws, st, Refusal::Failed);
+        return b.failed(Refusal::Failed);
     }
-    let first = tree::first_at(tree, at);
-    let s = expr(tree, first, ws, st, looping, levels, table);
+    let first = tree::first_at(t.image, at);
+    expr(t, b, first, looping, levels);
     if count == 1 {
-        return post_instr(tree, at, ws, s);
+        return post_instr(t, b, at);
     }
-    let t = builder::push(s);
-    let u = terms(
-        tree,
-        at,
-        ws,
+    b.push();
+    terms(
         t,
-        tree::next_at(tree, first),
+        b,
+        at,
+        tree::next_at(t.image, first),
         count - 2,
         looping,
         levels,
-        table,
     );
-    pop(u, 1)
+    pop(b, 1);
 }
 
 // `m` terms and the last, from the term at `a` on.
 #[cycle(expression)]
-fn terms(
-    tree: &[u8],
-    at: usize,
-    ws: &mut [u32],
-    st: State,
-    a: usize,
-    m: u16,
-    looping: bool,
-    levels: u16,
-    table: &RuleTable,
-) -> State
-    ensures { ◌≡◌ {A = Held} (result, ws.new) (R.under tree.now levels (R.terms tree.now) at m a looping (st, ws.old)) }
+#[tactic(auto, unfolding(crate::specs::Rules::terms))]
+fn terms(t: &Tree<'_>, b: &mut Builder<'_>, at: usize, a: usize, m: u16, looping: bool, levels: u16)
+    ensures { Did b.old b.new (R.under t.now.image.now levels (R.terms t.now.image.now) at m a looping) }
 {
-    let mut s = st;
     let mut term = a;
-    let mut left = m;
-    while left > 0 {
-        let t = expr(tree, term, ws, s, looping, levels, table);
-        s = instr(ws, t, Opcode::AddAcc, 0, 0, 0);
-        term = tree::next_at(tree, term);
-        left -= 1;
+    for _ in 0..m {
+        expr(t, b, term, looping, levels);
+        instr(b, Opcode::AddAcc, 0, 0, PostIdx::PLAIN);
+        term = tree::next_at(t.image, term);
     }
-    let t = expr(tree, term, ws, s, looping, levels, table);
-    put_post(tree, at, ws, t, Opcode::AddLast, 0, 0)
+    expr(t, b, term, looping, levels);
+    put_post(t, b, at, Opcode::AddLast, 0, 0);
 }
 
 #[cycle(expression)]
-fn mul(
-    tree: &[u8],
-    at: usize,
-    ws: &mut [u32],
-    st: State,
-    looping: bool,
-    levels: u16,
-    table: &RuleTable,
-) -> State
-    ensures { ◌≡◌ {A = Held} (result, ws.new) (R.under tree.now levels (R.mul tree.now) at looping (st, ws.old)) }
+#[tactic(auto, unfolding(crate::specs::Rules::mul))]
+fn mul(t: &Tree<'_>, b: &mut Builder<'_>, at: usize, looping: bool, levels: u16)
+    ensures { Did b.old b.new (R.under t.now.image.now levels (R.mul t.now.image.now) at looping) }
 {
-    if tree::count_at(tree, at) < 2 {
-        return builder::failed(ws, st, Refusal::Failed);
+    if tree::count_at(t.image, at) < 2 {
+        return b.failed(Refusal::Failed);
     }
-    let s = binary(
-        tree,
-        tree::first_at(tree, at),
-        ws,
-        st,
-        looping,
-        levels,
-        table,
-    );
-    let t = put_post(tree, at, ws, s, Opcode::Mul, 0, 0);
-    pop(t, 1)
+    binary(t, b, tree::first_at(t.image, at), looping, levels);
+    put_post(t, b, at, Opcode::Mul, 0, 0);
+    pop(b, 1);
 }
 
+#[tactic(auto, unfolding(program::specs::Image::bit))]
 fn divisor(tree: &[u8]) -> Divisor
     ensures { divisor_of result ≡ bit (eqb (be8 tree.now 0 6) 1) }
 {
@@ -688,429 +481,276 @@ fn divisor(tree: &[u8]) -> Divisor
 
 // The second child first; its guard pushes the divisor.
 #[cycle(expression)]
-fn div(
-    tree: &[u8],
-    at: usize,
-    ws: &mut [u32],
-    st: State,
-    looping: bool,
-    levels: u16,
-    table: &RuleTable,
-) -> State
-    ensures { ◌≡◌ {A = Held} (result, ws.new) (R.under tree.now levels (R.div tree.now) at looping (st, ws.old)) }
+#[tactic(auto, unfolding(crate::specs::Rules::div))]
+fn div(t: &Tree<'_>, b: &mut Builder<'_>, at: usize, looping: bool, levels: u16)
+    ensures { Did b.old b.new (R.under t.now.image.now levels (R.div t.now.image.now) at looping) }
 {
-    if tree::count_at(tree, at) < 2 {
-        return builder::failed(ws, st, Refusal::Failed);
+    if tree::count_at(t.image, at) < 2 {
+        return b.failed(Refusal::Failed);
     }
-    let a = tree::first_at(tree, at);
-    let s = expr(tree, tree::next_at(tree, a), ws, st, looping, levels, table);
-    let e = emit_jump(ws, s, Opcode::DivGuard, divisor(tree).number(), 0);
-    let g = e.state;
-    let t = steps::operand(g);
-    let u = expr(tree, a, ws, t, looping, levels, table);
-    let v = put_post(tree, at, ws, u, Opcode::Div, 0, 0);
-    let w = pop(v, 1);
-    place_target(ws, w, e.index)
+    let a = tree::first_at(t.image, at);
+    expr(t, b, tree::next_at(t.image, a), looping, levels);
+    let e = emit_jump(b, Opcode::DivGuard, divisor(t.image).number(), 0);
+    steps::operand(b);
+    expr(t, b, a, looping, levels);
+    put_post(t, b, at, Opcode::Div, 0, 0);
+    pop(b, 1);
+    place_target(b, e);
 }
 
 // Every argument but the last pushed, in order.
 #[cycle(expression)]
-fn host_math(
-    tree: &[u8],
-    at: usize,
-    ws: &mut [u32],
-    st: State,
-    bits: u16,
-    looping: bool,
-    levels: u16,
-    table: &RuleTable,
-) -> State
-    ensures { ◌≡◌ {A = Held} (result, ws.new) (R.under tree.now levels (R.host_math tree.now) bits at looping (st, ws.old)) }
+#[tactic(auto, unfolding(crate::specs::Rules::host_math, crate::specs::Payloads::as_math, crate::specs::Payloads::cases))]
+fn host_math(t: &Tree<'_>, b: &mut Builder<'_>, at: usize, bits: u16, looping: bool, levels: u16)
+    ensures { Did b.old b.new (R.under t.now.image.now levels (R.host_math t.now.image.now) bits at looping) }
 {
-    let s = flag(st, bits);
-    let p = payload::payload_at(tree, at);
+    flag(b, bits);
+    let p = payload::payload_at(t.image, at);
     let Payload::HostMath(f) = p else {
-        return builder::failed(ws, s, Refusal::Failed);
+        return b.failed(Refusal::Failed);
     };
-    let count = tree::count_at(tree, at);
+    let count = tree::count_at(t.image, at);
     if count == 0 {
-        return builder::failed(ws, s, Refusal::Failed);
+        return b.failed(Refusal::Failed);
     }
     if count > 255 {
-        return builder::failed(ws, s, Refusal::Failed);
+        return b.failed(Refusal::Failed);
     }
-    let t = host(
-        tree,
-        at,
-        ws,
-        s,
-        f,
-        count as u8,
-        count - 1,
-        looping,
-        levels,
-        table,
-    );
-    pop(t, count - 1)
+    host(t, b, at, f, count as u8, count - 1, looping, levels);
+    pop(b, count - 1);
 }
 
 // `m` arguments and the last of `k`, from the first on.
 #[cycle(expression)]
+#[tactic(auto, unfolding(crate::specs::Rules::host_arguments))]
 fn host(
-    tree: &[u8],
+    t: &Tree<'_>,
+    b: &mut Builder<'_>,
     at: usize,
-    ws: &mut [u32],
-    st: State,
     f: u16,
     k: u8,
     m: u16,
     looping: bool,
     levels: u16,
-    table: &RuleTable,
-) -> State
-    ensures { ◌≡◌ {A = Held} (result, ws.new) (R.under tree.now levels (R.host_arguments tree.now) at f k m (first_at tree.now at) looping (st, ws.old)) }
+)
+    ensures { Did b.old b.new (R.under t.now.image.now levels (R.host_arguments t.now.image.now) at f k m (first_at t.now.image.now at) looping) }
 {
-    let mut s = st;
-    let mut argument = tree::first_at(tree, at);
-    let mut left = m;
-    while left > 0 {
-        let t = expr(tree, argument, ws, s, looping, levels, table);
-        s = builder::push(t);
-        argument = tree::next_at(tree, argument);
-        left -= 1;
+    let mut argument = tree::first_at(t.image, at);
+    for _ in 0..m {
+        expr(t, b, argument, looping, levels);
+        b.push();
+        argument = tree::next_at(t.image, argument);
     }
-    let t = expr(tree, argument, ws, s, looping, levels, table);
-    put_post(tree, at, ws, t, Opcode::HostMath, k, f as u32)
+    expr(t, b, argument, looping, levels);
+    put_post(t, b, at, Opcode::HostMath, k, u32::from(f));
 }
 
 // ---- calls
 
 // The second child between PointerEnter, behind the first, and PointerLeave.
 #[cycle(expression)]
-fn pointer(
-    tree: &[u8],
-    at: usize,
-    ws: &mut [u32],
-    st: State,
-    looping: bool,
-    levels: u16,
-    table: &RuleTable,
-) -> State
-    ensures { ◌≡◌ {A = Held} (result, ws.new) (R.under tree.now levels (R.pointer tree.now) at looping (st, ws.old)) }
+#[tactic(auto, unfolding(crate::specs::Rules::pointer))]
+fn pointer(t: &Tree<'_>, b: &mut Builder<'_>, at: usize, looping: bool, levels: u16)
+    ensures { Did b.old b.new (R.under t.now.image.now levels (R.pointer t.now.image.now) at looping) }
 {
-    let s = flag(not_float_only(st), Flags::USES_ARROW);
-    if tree::count_at(tree, at) < 2 {
-        return builder::failed(ws, s, Refusal::Failed);
+    not_float_only(b);
+    flag(b, Flags::USES_ARROW);
+    if tree::count_at(t.image, at) < 2 {
+        return b.failed(Refusal::Failed);
     }
-    let p = post(tree, at, ws, s);
-    let x = p.state;
-    let q = p.index;
-    let a = tree::first_at(tree, at);
-    let t = expr(tree, a, ws, x, looping, levels, table);
-    let e = emit_jump(ws, t, Opcode::PointerEnter, 0, q.0);
-    let g = e.state;
-    let u = expr(tree, tree::next_at(tree, a), ws, g, looping, levels, table);
-    let v = instr(ws, u, Opcode::PointerLeave, 0, 0, q.0);
-    place_target(ws, v, e.index)
+    let q = post(t, b, at);
+    let a = tree::first_at(t.image, at);
+    expr(t, b, a, looping, levels);
+    let e = emit_jump(b, Opcode::PointerEnter, 0, q.0);
+    expr(t, b, tree::next_at(t.image, a), looping, levels);
+    instr(b, Opcode::PointerLeave, 0, 0, q);
+    place_target(b, e);
 }
 
 #[cycle(expression)]
-fn query(tree: &[u8], at: usize, ws: &mut [u32], st: State, levels: u16, table: &RuleTable) -> State
-    ensures { ◌≡◌ {A = Held} (result, ws.new) (R.under tree.now levels (R.query tree.now) at (st, ws.old)) }
+#[tactic(auto, unfolding(crate::specs::Rules::query, crate::specs::Rules::called, crate::specs::Payloads::as_query, crate::specs::Payloads::cases))]
+fn query(t: &Tree<'_>, b: &mut Builder<'_>, at: usize, levels: u16)
+    ensures { Did b.old b.new (R.under t.now.image.now levels (R.query t.now.image.now) at) }
 {
-    let p = payload::payload_at(tree, at);
+    let p = payload::payload_at(t.image, at);
     let Payload::Query(q) = p else {
-        return builder::failed(ws, st, Refusal::Failed);
+        return b.failed(Refusal::Failed);
     };
-    let count = tree::count_at(tree, at);
-    let s = steps::query_flags(st, count == 0);
-    let first = s.arguments;
-    let e = calls::begin_call(ws, s, q.index, q.impl_idx, count);
-    let g = e.state;
-    let t = segs(
-        tree,
-        ws,
-        g,
-        tree::first_at(tree, at),
-        count,
-        first,
-        levels,
-        table,
-    );
-    put_post(tree, at, ws, t, Opcode::Call, 0, e.index.0 as u32)
+    let count = tree::count_at(t.image, at);
+    steps::query_flags(b, count == 0);
+    let first = b.state.arguments;
+    let call = calls::begin_call(b, q, count);
+    segs(t, b, tree::first_at(t.image, at), count, first, levels);
+    put_post(t, b, at, Opcode::Call, 0, u32::from(call.0));
 }
 
 // Each argument is a segment of its own, without loops; its start goes to its slot.
 #[cycle(expression)]
-fn segs(
-    tree: &[u8],
-    ws: &mut [u32],
-    st: State,
-    a: usize,
-    m: u16,
-    first: u16,
-    levels: u16,
-    table: &RuleTable,
-) -> State
-    ensures { ◌≡◌ {A = Held} (result, ws.new) (R.under tree.now levels (R.arguments tree.now) st.base st.waiting m a first (st, ws.old)) }
+#[tactic(auto, unfolding(crate::specs::Rules::arguments))]
+fn segs(t: &Tree<'_>, b: &mut Builder<'_>, a: usize, m: u16, first: u16, levels: u16)
+    ensures { Did b.old b.new (R.under t.now.image.now levels (R.arguments t.now.image.now) b.old.state.base b.old.state.waiting m a first) }
 {
-    let base = st.base;
-    let waiting = st.waiting;
-    let mut s = st;
+    let base = b.state.base;
+    let waiting = b.state.waiting;
     let mut argument = a;
-    let mut left = m;
     let mut slot = first;
-    while left > 0 {
-        let t = segments::open_segment(s);
-        let u = expr(tree, argument, ws, t, false, levels, table);
-        s = calls::end_argument(ws, u, base, waiting, slot);
-        argument = tree::next_at(tree, argument);
-        slot = one_more(slot);
-        left -= 1;
+    for _ in 0..m {
+        b.open_segment();
+        expr(t, b, argument, false, levels);
+        calls::end_argument(b, base, waiting, slot);
+        argument = tree::next_at(t.image, argument);
+        slot = slot.saturating_add(1);
     }
-    s
 }
 
 // ---- control
 
 #[cycle(expression)]
-fn coalesce(
-    tree: &[u8],
-    at: usize,
-    ws: &mut [u32],
-    st: State,
-    looping: bool,
-    levels: u16,
-    table: &RuleTable,
-) -> State
-    ensures { ◌≡◌ {A = Held} (result, ws.new) (R.under tree.now levels (R.coalesce tree.now) at looping (st, ws.old)) }
+#[tactic(auto, unfolding(crate::specs::Rules::coalesce))]
+fn coalesce(t: &Tree<'_>, b: &mut Builder<'_>, at: usize, looping: bool, levels: u16)
+    ensures { Did b.old b.new (R.under t.now.image.now levels (R.coalesce t.now.image.now) at looping) }
 {
-    if tree::count_at(tree, at) < 2 {
-        return builder::failed(ws, st, Refusal::Failed);
+    if tree::count_at(t.image, at) < 2 {
+        return b.failed(Refusal::Failed);
     }
-    let a = tree::first_at(tree, at);
-    let e = emit_jump(ws, st, Opcode::HandlerPush, 0, 0);
-    let g = e.state;
-    let s = steps::enter_handler(g);
-    let t = expr(tree, a, ws, s, looping, levels, table);
-    let u = steps::leave_handler(t);
-    let f = emit_jump(ws, u, Opcode::HandlerPop, 0, 0);
-    let i = f.state;
-    let v = place_target(ws, i, e.index);
-    let w = expr(tree, tree::next_at(tree, a), ws, v, looping, levels, table);
-    let x = place_target(ws, w, f.index);
-    post_instr(tree, at, ws, x)
+    let a = tree::first_at(t.image, at);
+    let e = emit_jump(b, Opcode::HandlerPush, 0, 0);
+    steps::enter_handler(b);
+    expr(t, b, a, looping, levels);
+    steps::leave_handler(b);
+    let f = emit_jump(b, Opcode::HandlerPop, 0, 0);
+    place_target(b, e);
+    expr(t, b, tree::next_at(t.image, a), looping, levels);
+    place_target(b, f);
+    post_instr(t, b, at);
 }
 
 // The third child, or 0.0.
 #[cycle(expression)]
-fn alt(
-    tree: &[u8],
-    at: usize,
-    second: usize,
-    ws: &mut [u32],
-    st: State,
-    looping: bool,
-    levels: u16,
-    table: &RuleTable,
-) -> State
-    ensures { ◌≡◌ {A = Held} (result, ws.new) (R.under tree.now levels (R.alternative tree.now) at second looping (st, ws.old)) }
+#[tactic(auto, unfolding(crate::specs::Rules::alternative))]
+fn alt(t: &Tree<'_>, b: &mut Builder<'_>, at: usize, second: usize, looping: bool, levels: u16)
+    ensures { Did b.old b.new (R.under t.now.image.now levels (R.alternative t.now.image.now) at second looping) }
 {
-    if tree::count_at(tree, at) < 3 {
-        return interning::constant(ws, st, 0);
+    if tree::count_at(t.image, at) < 3 {
+        return interning::constant(b, 0);
     }
-    expr(
-        tree,
-        tree::next_at(tree, second),
-        ws,
-        st,
-        looping,
-        levels,
-        table,
-    )
+    expr(t, b, tree::next_at(t.image, second), looping, levels);
 }
 
 // The second child, or the third.
 #[cycle(expression)]
-fn conditional(
-    tree: &[u8],
-    at: usize,
-    ws: &mut [u32],
-    st: State,
-    looping: bool,
-    levels: u16,
-    table: &RuleTable,
-) -> State
-    ensures { ◌≡◌ {A = Held} (result, ws.new) (R.under tree.now levels (R.conditional tree.now) at looping (st, ws.old)) }
+#[tactic(auto, unfolding(crate::specs::Rules::conditional))]
+fn conditional(t: &Tree<'_>, b: &mut Builder<'_>, at: usize, looping: bool, levels: u16)
+    ensures { Did b.old b.new (R.under t.now.image.now levels (R.conditional t.now.image.now) at looping) }
 {
-    if tree::count_at(tree, at) < 2 {
-        return builder::failed(ws, st, Refusal::Failed);
+    if tree::count_at(t.image, at) < 2 {
+        return b.failed(Refusal::Failed);
     }
-    let a = tree::first_at(tree, at);
-    let b = tree::next_at(tree, a);
-    let s = expr(tree, a, ws, st, looping, levels, table);
-    let e = emit_jump(ws, s, Opcode::JumpIfFalsy, 0, 0);
-    let g = e.state;
-    let t = expr(tree, b, ws, g, looping, levels, table);
-    let f = emit_jump(ws, t, Opcode::Jump, 0, 0);
-    let i = f.state;
-    let u = place_target(ws, i, e.index);
-    let v = alt(tree, at, b, ws, u, looping, levels, table);
-    let w = place_target(ws, v, f.index);
-    post_instr(tree, at, ws, w)
+    let a = tree::first_at(t.image, at);
+    let second = tree::next_at(t.image, a);
+    expr(t, b, a, looping, levels);
+    let e = emit_jump(b, Opcode::JumpIfFalsy, 0, 0);
+    expr(t, b, second, looping, levels);
+    let f = emit_jump(b, Opcode::Jump, 0, 0);
+    place_target(b, e);
+    alt(t, b, at, second, looping, levels);
+    place_target(b, f);
+    post_instr(t, b, at);
 }
 
 // Each statement, and the constant of the list behind the last.
 #[cycle(expression)]
-fn statements(
-    tree: &[u8],
-    at: usize,
-    ws: &mut [u32],
-    st: State,
-    looping: bool,
-    levels: u16,
-    table: &RuleTable,
-) -> State
-    ensures { ◌≡◌ {A = Held} (result, ws.new) (R.under tree.now levels (R.statements tree.now) at looping (st, ws.old)) }
+#[tactic(auto, unfolding(crate::specs::Rules::statements))]
+fn statements(t: &Tree<'_>, b: &mut Builder<'_>, at: usize, looping: bool, levels: u16)
+    ensures { Did b.old b.new (R.under t.now.image.now levels (R.statements t.now.image.now) at looping) }
 {
-    let mut s = st;
-    let mut child = tree::first_at(tree, at);
-    let mut left = tree::count_at(tree, at);
-    while left > 0 {
-        s = item(tree, child, ws, s, looping, levels, table);
-        child = tree::next_at(tree, child);
-        left -= 1;
+    let mut child = tree::first_at(t.image, at);
+    for _ in 0..tree::count_at(t.image, at) {
+        item(t, b, child, looping, levels);
+        child = tree::next_at(t.image, child);
     }
-    interning::constant(ws, s, values::list_constant(tree, at))
+    interning::constant(b, values::list_constant(t, at));
 }
 
 // A statement of a list: only here is a Return one, elsewhere it is a constant.
 #[cycle(expression)]
-fn item(
-    tree: &[u8],
-    at: usize,
-    ws: &mut [u32],
-    st: State,
-    looping: bool,
-    levels: u16,
-    table: &RuleTable,
-) -> State
-    ensures { ◌≡◌ {A = Held} (result, ws.new) (R.under tree.now levels (R.statement tree.now) at looping (st, ws.old)) }
+#[tactic(auto, unfolding(crate::specs::Rules::statement))]
+fn item(t: &Tree<'_>, b: &mut Builder<'_>, at: usize, looping: bool, levels: u16)
+    ensures { Did b.old b.new (R.under t.now.image.now levels (R.statement t.now.image.now) at looping) }
 {
-    if rules::rule_at(tree, at, table) == operators::RETURN {
-        return ret(tree, at, ws, st, looping, levels, table);
+    if t.rule_at(at) == operators::RETURN {
+        return ret(t, b, at, looping, levels);
     }
-    expr(tree, at, ws, st, looping, levels, table)
+    expr(t, b, at, looping, levels);
 }
 
 // A Return of a statement list.
 #[cycle(expression)]
-fn ret(
-    tree: &[u8],
-    at: usize,
-    ws: &mut [u32],
-    st: State,
-    looping: bool,
-    levels: u16,
-    table: &RuleTable,
-) -> State
-    ensures { ◌≡◌ {A = Held} (result, ws.new) (R.returned tree.now levels at looping (st, ws.old)) }
+#[tactic(auto, unfolding(crate::specs::Rules::returned, crate::specs::Rules::ret))]
+fn ret(t: &Tree<'_>, b: &mut Builder<'_>, at: usize, looping: bool, levels: u16)
+    ensures { Did b.old b.new (R.returned t.now.image.now levels at looping) }
 {
     if levels == 0 {
-        return builder::failed(ws, st, Refusal::Failed);
+        return b.failed(Refusal::Failed);
     }
-    if tree::count_at(tree, at) == 0 {
-        let s = interning::constant(ws, st, 0);
-        return put_post(tree, at, ws, s, Opcode::Return, 0, 0);
+    if tree::count_at(t.image, at) == 0 {
+        interning::constant(b, 0);
+        return put_post(t, b, at, Opcode::Return, 0, 0);
     }
-    let s = expr(
-        tree,
-        tree::first_at(tree, at),
-        ws,
-        st,
-        looping,
-        levels - 1,
-        table,
-    );
-    put_post(tree, at, ws, s, Opcode::Return, 0, 0)
+    expr(t, b, tree::first_at(t.image, at), looping, levels - 1);
+    put_post(t, b, at, Opcode::Return, 0, 0);
 }
 
 // counted_loop in the Rust: the count, and the body so often.
 #[cycle(expression)]
-fn repeat(
-    tree: &[u8],
-    at: usize,
-    ws: &mut [u32],
-    st: State,
-    looping: bool,
-    levels: u16,
-    table: &RuleTable,
-) -> State
-    ensures { ◌≡◌ {A = Held} (result, ws.new) (R.under tree.now levels (R.counted_loop tree.now) at looping (st, ws.old)) }
+#[tactic(auto, unfolding(crate::specs::Rules::counted_loop))]
+fn repeat(t: &Tree<'_>, b: &mut Builder<'_>, at: usize, looping: bool, levels: u16)
+    ensures { Did b.old b.new (R.under t.now.image.now levels (R.counted_loop t.now.image.now) at looping) }
 {
-    let s = flag(st, Flags::HAS_LOOPS);
-    if tree::count_at(tree, at) < 2 {
-        return builder::failed(ws, s, Refusal::Failed);
+    flag(b, Flags::HAS_LOOPS);
+    if tree::count_at(t.image, at) < 2 {
+        return b.failed(Refusal::Failed);
     }
-    let a = tree::first_at(tree, at);
-    let t = expr(tree, a, ws, s, looping, levels, table);
-    let e = emit_jump(ws, t, Opcode::LoopBegin, 0, 0);
-    let g = e.state;
-    let u = steps::enter_loop(steps::operand(g));
-    let v = expr(tree, tree::next_at(tree, a), ws, u, true, levels, table);
-    let w = control::close_loop(ws, v, e.index);
-    let x = steps::leave_loop(pop(w, 1));
-    interning::constant(ws, x, values::folded(tree, at, 0))
+    let a = tree::first_at(t.image, at);
+    expr(t, b, a, looping, levels);
+    let e = emit_jump(b, Opcode::LoopBegin, 0, 0);
+    steps::operand(b);
+    steps::enter_loop(b);
+    expr(t, b, tree::next_at(t.image, a), true, levels);
+    control::close_loop(b, e);
+    pop(b, 1);
+    steps::leave_loop(b);
+    interning::constant(b, values::folded(t, at, 0));
 }
 
 #[cycle(expression)]
-fn for_each(
-    tree: &[u8],
-    at: usize,
-    ws: &mut [u32],
-    st: State,
-    looping: bool,
-    levels: u16,
-    table: &RuleTable,
-) -> State
-    ensures { ◌≡◌ {A = Held} (result, ws.new) (R.under tree.now levels (R.for_each tree.now) at looping (st, ws.old)) }
+#[tactic(auto, unfolding(crate::specs::Rules::for_each))]
+fn for_each(t: &Tree<'_>, b: &mut Builder<'_>, at: usize, looping: bool, levels: u16)
+    ensures { Did b.old b.new (R.under t.now.image.now levels (R.for_each t.now.image.now) at looping) }
 {
-    let s = not_float_only(flag(st, Flags::HAS_LOOPS));
-    if tree::count_at(tree, at) < 3 {
-        return builder::failed(ws, s, Refusal::Failed);
+    flag(b, Flags::HAS_LOOPS);
+    not_float_only(b);
+    if tree::count_at(t.image, at) < 3 {
+        return b.failed(Refusal::Failed);
     }
-    let v = control::variable(tree, tree::first_at(tree, at), ws, s);
-    let t = v.state;
-    let k = v.index;
-    match k {
-        EachIndex::Refused => t,
-        _ => each(tree, at, ws, t, k, looping, levels, table),
+    if let Some(k) = control::variable(t, b, tree::first_at(t.image, at)) {
+        each(t, b, at, k, looping, levels);
     }
 }
 
 // Behind a ForEach's variable: the array, and the body once for each element.
 #[cycle(expression)]
-fn each(
-    tree: &[u8],
-    at: usize,
-    ws: &mut [u32],
-    st: State,
-    k: EachIndex,
-    looping: bool,
-    levels: u16,
-    table: &RuleTable,
-) -> State
-    ensures { ◌≡◌ {A = Held} (result, ws.new) (R.under tree.now levels (R.each tree.now) at (each_next k) looping (st, ws.old)) }
+#[tactic(auto, unfolding(crate::specs::Rules::each))]
+fn each(t: &Tree<'_>, b: &mut Builder<'_>, at: usize, k: EachIndex, looping: bool, levels: u16)
+    ensures { Did b.old b.new (R.under t.now.image.now levels (R.each t.now.image.now) at (each_next k) looping) }
 {
-    let b = tree::next_at(tree, tree::first_at(tree, at));
-    let s = expr(tree, b, ws, st, looping, levels, table);
-    let e = emit_jump(ws, s, Opcode::EachBegin, 0, 0);
-    let g = e.state;
-    let f = control::each_next(ws, g, k);
-    let i = f.state;
-    let t = steps::enter_loop(i);
-    let u = expr(tree, tree::next_at(tree, b), ws, t, true, levels, table);
-    let v = control::close_each(ws, u, e.index, f.index);
-    let w = steps::leave_loop(v);
-    interning::constant(ws, w, values::folded(tree, at, 0))
+    let array = tree::next_at(t.image, tree::first_at(t.image, at));
+    expr(t, b, array, looping, levels);
+    let e = emit_jump(b, Opcode::EachBegin, 0, 0);
+    let f = control::each_next(b, k);
+    steps::enter_loop(b);
+    expr(t, b, tree::next_at(t.image, array), true, levels);
+    control::close_each(b, e, f);
+    steps::leave_loop(b);
+    interning::constant(b, values::folded(t, at, 0));
 }

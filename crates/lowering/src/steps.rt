@@ -1,86 +1,77 @@
 // Steps beside the workspace's words: the depth counters, the flags.
-ghost use Rattle.std.specs.Prelude.{◌≡◌};
+ghost use Rattle.builder.specs.Done.{Did};
+ghost use Rattle.builder.specs.Steps.{still};
 ghost use Rattle.lowering.specs.Steps.{operand_entered, popped, loop_entered, loop_left, handler_entered, handler_left, flagged, not_float_only, queried};
 
-use builder::State;
+use builder::Builder;
 use program::Flags;
 
 // One more operand, which no Push puts there.
 #[tactic(auto, unfolding(crate::specs::Steps::operand_entered))]
-pub(crate) fn operand(mut st: State) -> State
-    ensures { result ≡ operand_entered st }
+pub(crate) fn operand(b: &mut Builder<'_>)
+    ensures { Did b.old b.new (still operand_entered) }
 {
-    st.depth.push_operand();
-    st
+    b.state.depth.push_operand();
 }
 
 #[tactic(auto, unfolding(crate::specs::Steps::popped))]
-pub(crate) fn pop(mut st: State, k: u16) -> State
-    ensures { result ≡ popped k st }
+pub(crate) fn pop(b: &mut Builder<'_>, k: u16)
+    ensures { Did b.old b.new (still (popped k)) }
 {
-    st.depth.pop_operands(k);
-    st
+    b.state.depth.pop_operands(k);
 }
 
 #[tactic(auto, unfolding(crate::specs::Steps::loop_entered))]
-pub(crate) fn enter_loop(mut st: State) -> State
-    ensures { result ≡ loop_entered st }
+pub(crate) fn enter_loop(b: &mut Builder<'_>)
+    ensures { Did b.old b.new (still loop_entered) }
 {
-    st.depth.enter_loop();
-    st
+    b.state.depth.enter_loop();
 }
 
 #[tactic(auto, unfolding(crate::specs::Steps::loop_left))]
-pub(crate) fn leave_loop(mut st: State) -> State
-    ensures { result ≡ loop_left st }
+pub(crate) fn leave_loop(b: &mut Builder<'_>)
+    ensures { Did b.old b.new (still loop_left) }
 {
-    st.depth.leave_loop();
-    st
+    b.state.depth.leave_loop();
 }
 
 #[tactic(auto, unfolding(crate::specs::Steps::handler_entered))]
-pub(crate) fn enter_handler(mut st: State) -> State
-    ensures { result ≡ handler_entered st }
+pub(crate) fn enter_handler(b: &mut Builder<'_>)
+    ensures { Did b.old b.new (still handler_entered) }
 {
-    st.depth.enter_handler();
-    st
+    b.state.depth.enter_handler();
 }
 
 #[tactic(auto, unfolding(crate::specs::Steps::handler_left))]
-pub(crate) fn leave_handler(mut st: State) -> State
-    ensures { result ≡ handler_left st }
+pub(crate) fn leave_handler(b: &mut Builder<'_>)
+    ensures { Did b.old b.new (still handler_left) }
 {
-    st.depth.leave_handler();
-    st
+    b.state.depth.leave_handler();
 }
 
-pub(crate) fn flag(st: State, bits: u16) -> State
-    ensures { result ≡ flagged bits st }
+#[tactic(auto, unfolding(crate::specs::Steps::flagged))]
+pub(crate) fn flag(b: &mut Builder<'_>, bits: u16)
+    ensures { Did b.old b.new (still (flagged bits)) }
 {
-    let mut s = st;
-    s.flags = s.flags | bits;
-    s
+    b.state.flags |= bits;
 }
 
 // The program is not FLOAT_ONLY, and does not start on the float loop.
-pub(crate) fn not_float_only(st: State) -> State
-    ensures { result ≡ not_float_only st }
+#[tactic(auto, unfolding(crate::specs::Steps::not_float_only))]
+pub(crate) fn not_float_only(b: &mut Builder<'_>)
+    ensures { Did b.old b.new (still not_float_only) }
 {
-    let mut s = st;
-    s.flags = s.flags & Flags::NOT_FLOAT;
-    s.float_loop = false;
-    s
+    b.state.flags &= Flags::NOT_FLOAT;
+    b.state.float_loop = false;
 }
 
 // A query: without arguments it can run on the float loop.
-pub(crate) fn query_flags(st: State, alone: bool) -> State
-    ensures { result ≡ queried alone st }
+#[tactic(auto, unfolding(crate::specs::Steps::queried))]
+pub(crate) fn query_flags(b: &mut Builder<'_>, alone: bool)
+    ensures { Did b.old b.new (still (queried alone)) }
 {
-    let mut s = st;
-    s.flags = (s.flags & Flags::NOT_FLOAT) | Flags::USES_QUERIES;
-    if alone {
-        return s;
+    b.state.flags = (b.state.flags & Flags::NOT_FLOAT) | Flags::USES_QUERIES;
+    if !alone {
+        b.state.float_loop = false;
     }
-    s.float_loop = false;
-    s
 }

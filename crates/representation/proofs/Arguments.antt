@@ -19,7 +19,8 @@ use Rattle.lowering.specs.Pools.{after}
 use Rattle.builder.specs.Segments as T
 use Rattle.builder.specs.Steps.{Held}
 use Rattle.lowering.specs.Parts as L
-use Rattle.lowering.specs.Parts.{Step, still}
+use Rattle.lowering.specs.Parts.{Step}
+use Rattle.builder.specs.Steps.{still}
 use Rattle.lowering.specs.Rules as R
 use Rattle.representation.proofs.Rows.{Rows}
 use Rattle.representation.proofs.Represents.{ItemAt, OpenCall, OpenCalls, reserved_by, Abs, Fits, Content, Does, run}

@@ -30,10 +30,11 @@ use Rattle.payload.specs.Payloads.{payload_ref_at}
 use Rattle.lowering.specs.Pools as B
 use Rattle.builder.specs.Steps as W
 use Rattle.builder.specs.Steps.{Held}
-use Rattle.lowering.specs.declared.control.EachVariable.{EachVariable}
+use Rattle.lowering.specs.Leaves.{EachVariable}
 use Rattle.lowering.specs.Payloads as Q
 use Rattle.lowering.specs.Parts as L
-use Rattle.lowering.specs.Parts.{Step, still}
+use Rattle.lowering.specs.Parts.{Step}
+use Rattle.builder.specs.Steps.{still}
 use Rattle.lowering.specs.Steps as Y
 use Rattle.lowering.specs.Rules as R
 use Rattle.representation.proofs.Represents.{Does}
@@ -101,7 +102,7 @@ module _ (tree : List ℕ) (E : ℕ → Bool → Step) (C : ℕ → NameRef → 
 
   -- what the code makes of a variable v that it found
   abbrev looping : ℕ → Bool → EachVariable × List ℕ → Held
-  looping p l v = cond (L.is_refused v.0.index) (v.0.state, v.1) (R.each tree E C Z p (L.each_next v.0.index) l (v.0.state, v.1))
+  looping p l v = L.where_found v.0.index (λ i. R.each tree E C Z p (L.each_next i) l) (v.0.state, v.1)
 
   module _ (p : ℕ) (xs : List Lowerings) (k : Children tree E C Z xs (count_at tree p) (first_at tree p)) {c : Counts} (l : Bool) where
     pub coalesce_does : Does tree (P.two xs (failing 7) λ a b. fork N.handler_push N.handler_pop handler+ (a.expr l) (b.expr l) ⨾ post_instruction (L.post_bits tree p)) c (R.coalesce tree E C Z p l)
@@ -136,7 +137,7 @@ module _ (tree : List ℕ) (E : ℕ → Bool → Step) (C : ℕ → NameRef → 
 
     variable_does : (n : ℕ) → Sound n tree (first_at tree p) → length tree ≤ 6144 → {b e : Lowerings} → Child tree E C Z b (next_at tree (first_at tree p)) → Child tree E C Z e (next_at tree (next_at tree (first_at tree p)))
         → Does tree (D.each_of (payload_at tree (first_at tree p)) λ i. b.expr l ⨾ eached i (e.expr true) ⨾ constant (fold (L.post_bits tree p) 0)) c (λ h. looping p l (R.variable tree (first_at tree p) h))
-    unfolding D.each_of R.variable R.variable_temp R.variable_of R.no_variable L.is_refused L.each_next
+    unfolding D.each_of R.variable R.variable_temp L.each_next
     variable_does n sound short {b} {e} cb ce =
         let q = first_at tree p in
         let f : N.EachNext → Lowering = λ i. b.expr l ⨾ eached i (e.expr true) ⨾ constant (fold (L.post_bits tree p) 0) in

@@ -21,7 +21,8 @@ use Rattle.payload.specs.declared.NameRef.{NameRef}
 use Rattle.lowering.specs.Pools as B
 use Rattle.builder.specs.Steps as W
 use Rattle.lowering.specs.Parts as L
-use Rattle.lowering.specs.Parts.{Step, still}
+use Rattle.lowering.specs.Parts.{Step}
+use Rattle.builder.specs.Steps.{still}
 use Rattle.lowering.specs.Steps as Y
 use Rattle.representation.proofs.Represents.{Moves, Does, on_state}
 use Rattle.representation.proofs.Interning as I

@@ -21,7 +21,8 @@ use Rattle.builder.specs.Steps as W
 use Rattle.builder.specs.Fields.{set_refusal}
 use Rattle.builder.specs.Steps.{Held}
 use Rattle.lowering.specs.Steps as L
-use Rattle.lowering.specs.Parts.{Step, still}
+use Rattle.lowering.specs.Parts.{Step}
+use Rattle.builder.specs.Steps.{still}
 use Rattle.representation.proofs.Represents.{Abs, Fits, Content, Moves, Does, run, on_state}
 
 -- ---- putting together

@@ -17,7 +17,8 @@ use Rattle.lowering.specs.Pools.{after}
 use Rattle.builder.specs.Segments as T
 use Rattle.builder.specs.Steps.{Held}
 use Rattle.lowering.specs.Parts as L
-use Rattle.lowering.specs.Parts.{Step, still}
+use Rattle.lowering.specs.Parts.{Step}
+use Rattle.builder.specs.Steps.{still}
 use Rattle.lowering.specs.Steps as Y
 use Rattle.representation.proofs.Represents.{OpenCall, Abs, Fits, Content, Does, run}
 use Rattle.representation.proofs.Laws.{loop_move, loop_left_lem}

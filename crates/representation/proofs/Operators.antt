@@ -26,7 +26,8 @@ use Rattle.payload.specs.Payloads.{payload_ref_at}
 use Rattle.builder.specs.Steps as W
 use Rattle.lowering.specs.Payloads as Q
 use Rattle.lowering.specs.Parts as L
-use Rattle.lowering.specs.Parts.{Step, still}
+use Rattle.lowering.specs.Parts.{Step}
+use Rattle.builder.specs.Steps.{still}
 use Rattle.lowering.specs.Steps as Y
 use Rattle.lowering.specs.Rules as R
 use Rattle.representation.proofs.Represents.{Does}

@@ -19,7 +19,8 @@ use Rattle.payload.specs.declared.NameRef.{NameRef}
 use Rattle.workspace.specs.Layout.{CALLS, ARGUMENTS}
 use Rattle.builder.specs.Steps.{Held}
 use Rattle.lowering.specs.Parts as L
-use Rattle.lowering.specs.Parts.{Step, still}
+use Rattle.lowering.specs.Parts.{Step}
+use Rattle.builder.specs.Steps.{still}
 use Rattle.lowering.specs.Steps as Y
 use Rattle.lowering.specs.Rules as R
 use Rattle.representation.proofs.Rows.{Rows}

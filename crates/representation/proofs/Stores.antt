@@ -42,7 +42,8 @@ use Rattle.lowering.specs.Pools.{Found}
 use Rattle.lowering.specs.declared.assign.PathEnd.{PathEnd}
 use Rattle.lowering.specs.Steps as L
 use Rattle.lowering.specs.Payloads as Q
-use Rattle.lowering.specs.Parts.{Step, still, instr, going, post_bits, path_added, store_added}
+use Rattle.lowering.specs.Parts.{Step, instr, going, post_bits, path_added, store_added}
+use Rattle.builder.specs.Steps.{still}
 use Rattle.lowering.specs.Rules as R
 use Rattle.representation.proofs.Rows.{Apart, Agree, rows_snoc, sets_apart, sets_stored}
 use Rattle.representation.proofs.Represents.{StoreAt, Abs, Fits, Table, Tables, finished_code, Content, Moves, Does, Enters, on_state, run}

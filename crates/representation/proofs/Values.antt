@@ -24,7 +24,8 @@ use Rattle.lowering.specs.Pools as B
 use Rattle.builder.specs.Steps as W
 use Rattle.lowering.specs.Payloads as Q
 use Rattle.lowering.specs.Parts as L
-use Rattle.lowering.specs.Parts.{Step, still}
+use Rattle.lowering.specs.Parts.{Step}
+use Rattle.builder.specs.Steps.{still}
 use Rattle.lowering.specs.Steps as Y
 use Rattle.lowering.specs.Rules as R
 use Rattle.representation.proofs.Represents.{Does}

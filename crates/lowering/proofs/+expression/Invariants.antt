@@ -1,7 +1,8 @@
 -- The measures of the cycle, and what each of its loops keeps. A level outweighs all that one node's rule does without going a level down.
-use Rattle.std.proofs.Common.{◌≡◌, ◌+◌, ◌*◌}
-use Rattle.ast.specs.Node.{offset_at}
+use Rattle.std.proofs.Common.{◌≡◌, ◌+◌, ◌-◌, ◌*◌}
+use Rattle.ast.specs.Node.{offset_at, count_at, first_at}
 use Rattle.builder.specs.Steps.{Held}
+use Rattle.builder.specs.Done.{held}
 use Rattle.lowering.specs.Rules as R
 use Rattle.lowering.proofs.+expression.Given as goal
 
@@ -98,38 +99,31 @@ decreases-for_each l = 200000 * l.levels + 80000
 abbrev pub decreases-each : goal.decreases-each
 decreases-each l = 200000 * l.levels + 70000
 
-abbrev pub invariant-terms-loop-left : goal.invariant-terms-loop-left
-invariant-terms-loop-left l =
-    ◌≡◌ {A = Held}
-    (R.under l.tree l.levels (R.terms l.tree) l.at l.left l.term l.looping (l.s, l.ws))
-    (R.under l.tree l.levels (R.terms l.tree) l.at l.initial.left l.initial.term l.looping (l.initial.s, l.initial.ws))
+-- what the rounds left make of the builder is what all of them make of it at the start, and it holds the words that it was lent
+abbrev pub invariant-terms-loop : goal.invariant-terms-loop
+invariant-terms-loop l =
+    let t = l.t.image.now in
+    (◌≡◌ {A = Held} (R.under t l.levels (R.terms t) l.at (l.m - l.counter) l.term l.looping (held l.b))
+    (R.under t l.levels (R.terms t) l.at l.m l.a l.looping (held l.initial.b)))
+    × (l.b.words.ghost_name ≡ l.initial.b.words.ghost_name)
 
-abbrev pub decreases-terms-loop-left : goal.decreases-terms-loop-left
-decreases-terms-loop-left l = l.left
+abbrev pub invariant-host-loop : goal.invariant-host-loop
+invariant-host-loop l =
+    let t = l.t.image.now in
+    (◌≡◌ {A = Held} (R.under t l.levels (R.host_arguments t) l.at l.f l.k (l.m - l.counter) l.argument l.looping (held l.b))
+    (R.under t l.levels (R.host_arguments t) l.at l.f l.k l.m (first_at t l.at) l.looping (held l.initial.b)))
+    × (l.b.words.ghost_name ≡ l.initial.b.words.ghost_name)
 
-abbrev pub invariant-host-loop-left : goal.invariant-host-loop-left
-invariant-host-loop-left l =
-    ◌≡◌ {A = Held}
-    (R.under l.tree l.levels (R.host_arguments l.tree) l.at l.f l.k l.left l.argument l.looping (l.s, l.ws))
-    (R.under l.tree l.levels (R.host_arguments l.tree) l.at l.f l.k l.initial.left l.initial.argument l.looping (l.initial.s, l.initial.ws))
+abbrev pub invariant-segs-loop : goal.invariant-segs-loop
+invariant-segs-loop l =
+    let t = l.t.image.now in
+    (◌≡◌ {A = Held} (R.under t l.levels (R.arguments t) l.base l.waiting (l.m - l.counter) l.argument l.slot (held l.b))
+    (R.under t l.levels (R.arguments t) l.base l.waiting l.m l.a l.first (held l.initial.b)))
+    × (l.b.words.ghost_name ≡ l.initial.b.words.ghost_name)
 
-abbrev pub decreases-host-loop-left : goal.decreases-host-loop-left
-decreases-host-loop-left l = l.left
-
-abbrev pub invariant-segs-loop-left : goal.invariant-segs-loop-left
-invariant-segs-loop-left l =
-    ◌≡◌ {A = Held}
-    (R.under l.tree l.levels (R.arguments l.tree) l.base l.waiting l.left l.argument l.slot (l.s, l.ws))
-    (R.under l.tree l.levels (R.arguments l.tree) l.base l.waiting l.initial.left l.initial.argument l.initial.slot (l.initial.s, l.initial.ws))
-
-abbrev pub decreases-segs-loop-left : goal.decreases-segs-loop-left
-decreases-segs-loop-left l = l.left
-
-abbrev pub invariant-statements-loop-left : goal.invariant-statements-loop-left
-invariant-statements-loop-left l =
-    ◌≡◌ {A = Held}
-    (R.under l.tree l.levels (R.statements_from l.tree) (offset_at l.tree l.at) l.left l.child l.looping (l.s, l.ws))
-    (R.under l.tree l.levels (R.statements_from l.tree) (offset_at l.tree l.at) l.initial.left l.initial.child l.looping (l.initial.s, l.initial.ws))
-
-abbrev pub decreases-statements-loop-left : goal.decreases-statements-loop-left
-decreases-statements-loop-left l = l.left
+abbrev pub invariant-statements-loop : goal.invariant-statements-loop
+invariant-statements-loop l =
+    let t = l.t.image.now in
+    (◌≡◌ {A = Held} (R.under t l.levels (R.statements_from t) (offset_at t l.at) (count_at t l.at - l.counter) l.child l.looping (held l.b))
+    (R.under t l.levels (R.statements_from t) (offset_at t l.at) (count_at t l.at) (first_at t l.at) l.looping (held l.initial.b)))
+    × (l.b.words.ghost_name ≡ l.initial.b.words.ghost_name)
