@@ -52,13 +52,13 @@ refuses Failed e = omega (arith, e)
 refuses WriteToOtherMob e = omega (arith, e)
 refuses SmallOutput e = omega (arith, e)
 
-early : (tree out : List ℕ) (r : ℕ) → r ≡ questions tree → (r ≡ 0 → ⊥) → Asked tree out out (record { number = r; length = 0 })
+pub refused_early : (tree out : List ℕ) (r : ℕ) → r ≡ questions tree → (r ≡ 0 → ⊥) → Asked tree out out (record { number = r; length = 0 })
 unfolding refusal_of first S.answer_from S.written
-early tree out zero e n = absurd (n refl)
-early tree out (suc r) e n = record { answered = rw (← e); output = refl }
+refused_early tree out zero e n = absurd (n refl)
+refused_early tree out (suc r) e n = record { answered = rw (← e); output = refl }
 
-pub refused_early : (tree out : List ℕ) (why : Refusal) → number_of why ≡ questions tree → Asked tree out out (shown (Err why))
-refused_early tree out why e = early tree out (number_of why) e (refuses why)
+pub refused_early_as : (tree out : List ℕ) (why : Refusal) → number_of why ≡ questions tree → Asked tree out out (shown (Err why))
+refused_early_as tree out why e = refused_early tree out (number_of why) e (refuses why)
 
 -- ---- questions 5 to 8
 
@@ -67,13 +67,13 @@ module _ (tree words out : List ℕ) (small : Bytes tree) (passed : questions tr
   unfolding refusal_of first
   refusal = rw passed (sym (refusal_is tree words small passed enough))
 
-  late : (r : ℕ) → number_of_first (R.lowered tree words).0.refusal ≡ r → (r ≡ 0 → ⊥) → Asked tree out out (record { number = r; length = 0 })
+  pub refused_late : (r : ℕ) → number_of_first (R.lowered tree words).0.refusal ≡ r → (r ≡ 0 → ⊥) → Asked tree out out (record { number = r; length = 0 })
   unfolding S.answer_from S.written
-  late zero e n = absurd (n refl)
-  late (suc r) e n = record { answered = rw (refusal ∙ e); output = refl }
+  refused_late zero e n = absurd (n refl)
+  refused_late (suc r) e n = record { answered = rw (refusal ∙ e); output = refl }
 
-  pub refused_late : (s : B.State) (w : List ℕ) (why : Refusal) → ◌≡◌ {A = Held} (s, w) (R.lowered tree words) → s.refusal ≡ Some why → Asked tree out out (shown (Err why))
-  refused_late s w why e z = late (number_of why) (ap number_of_first (sym (ap (λ (h : Held). h.0.refusal) e) ∙ z)) (refuses why)
+  pub refused_late_as : (s : B.State) (w : List ℕ) (why : Refusal) → ◌≡◌ {A = Held} (s, w) (R.lowered tree words) → s.refusal ≡ Some why → Asked tree out out (shown (Err why))
+  refused_late_as s w why e z = refused_late (number_of why) (ap number_of_first (sym (ap (λ (h : Held). h.0.refusal) e) ∙ z)) (refuses why)
 
   -- ---- question 9, and the image
 

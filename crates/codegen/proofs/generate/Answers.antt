@@ -1,11 +1,11 @@
 use Rattle.std.proofs.Common.{arith}
-use Rattle.codegen.proofs.Outcome.{all_bytes, refused_late, accepted_as}
+use Rattle.codegen.proofs.Outcome.{all_bytes, refused_late_as, accepted_as}
 use Rattle.codegen.proofs.generate.Goals as goal
 
 pub returns-in-Some : goal.returns-in-Some
 returns-in-Some c =
     let a = c.args in
-    refused_late a.tree.now a.ws.now a.out.now
+    refused_late_as a.tree.now a.ws.now a.out.now
     (all_bytes a.tree.now (λ i l. omega (arith, c.type_inv.tree i)))
     c.requires.1 c.requires.0 c.lower-s.result c.lower-s.new.ws c.in-Some.why c.lower-s.ensures c.in-Some.is
 
