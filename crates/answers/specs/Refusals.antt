@@ -1,7 +1,8 @@
 -- The refusals: number, name and text of each, one row a refusal. 01, Nine questions: "A refusal returns its number". Definitions only.
 use Rattle.std.specs.Prelude.{◌≡◌, ◌<◌, ◌⊎◌, cond, List, [], ◌∷◌, ◌++◌, ℕ, length, drop, eqb, leb, Option, None, Some, Result, Ok, Err}
 use Rattle.answers.specs.declared.refusals.Refusal.{Refusal}
-use Rattle.answers.specs.declared.refusals.Refusal.TheVariants.{SmallWorkspace, NoTreeImage, Damaged, TooDeep, UsesArrays, UsesResources, Failed, WriteToOtherMob, SmallOutput}
+use Rattle.answers.specs.declared.refusals.Refusal.TheVariants.{SmallWorkspace, NoTreeImage, Damaged, TooDeep}
+use Rattle.answers.specs.declared.refusals.Refusal.TheVariants.{UsesArrays, UsesResources, Failed, WriteToOtherMob, SmallOutput}
 use Prim.Native.Char.{code}
 use Prim.Native.String.{String, [] as end, ◌∷◌ as ◌then◌}
 

@@ -22,7 +22,7 @@ pub enum Refusal {
 }
 
 impl Refusal {
-    // The number of the question.
+    // The number of the question. A variant's number is had by `as` alone.
     pub fn number(self) -> u8
         ensures { result ≡ number_of self }
     {

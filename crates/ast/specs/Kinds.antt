@@ -1,4 +1,5 @@
--- The payload kinds by their numbers. 01, The tree image: "Payload kinds: 0 None, 1 Float (4 bytes), 2 Hash (8), .. 11 Query (index 2, impl_idx 1), 12 HostMath (2)". Definitions only.
+-- The payload kinds by their numbers. Definitions only.
+-- 01, The tree image: "Payload kinds: 0 None, 1 Float (4 bytes), 2 Hash (8), .. 11 Query (index 2, impl_idx 1), 12 HostMath (2)"
 use Rattle.std.specs.Prelude.{ℕ}
 use Rattle.ast.specs.NameKinds as Name
 use Rattle.ast.specs.declared.kinds.Kind.{Kind}

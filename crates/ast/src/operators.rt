@@ -1,4 +1,5 @@
 // The operator codes that have a rule, in order of first mention in `expr`. A rule has its operator's code as its number.
+// Numbers and no enum, which is a rule of the project: the table is an array of 256 numbers, and a code of no rule is read from it too.
 
 pub const ARRAY: u8 = 1;
 

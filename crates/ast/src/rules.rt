@@ -12,3 +12,6 @@ pub const RULES: [u8; 256] = [
     0, 0, 0, 0, 0, 0, 0, 0, 0, 0, 0, 0, 0, 0, 0, 0, 0, 0, 0, 0, 0, 0, 0, 0, 0, 0, 0, 0, 0, 0, 0, 0,
     0, 0, 0,
 ];
+
+// The same, laid out once in memory: a constant is laid out anew wherever it is read.
+pub static TABLE: [u8; 256] = RULES;

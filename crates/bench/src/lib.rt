@@ -37,6 +37,7 @@ pub struct Done {
     pub written: io::Result<()>,
 }
 
+// The buffers are arrays: where memory for a `Vec` runs out, `listing` would answer 2 in place of an error.
 pub fn input() -> [u8; INPUT]
     ensures { LONGEST + 1 ≡ length result }
 {

@@ -31,7 +31,7 @@ fn listing(rt: &impl Print, image: &[u8]) -> io::Result<()>
     closing(rt, image, image.len() - CLOSING)
 }
 
-// Index, opcode, sub, A and B.
+// Index, opcode, sub, A and B. A usize has no `From` of a u32, so `as` widens it.
 fn instruction(rt: &impl Print, image: &[u8], i: u32) -> io::Result<()> {
     let at = CODE + 8 * (i as usize);
     let opcode = wire::get_u8(image, at, 0);

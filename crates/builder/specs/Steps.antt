@@ -1,7 +1,6 @@
 -- What each step of the builder makes of its state and the workspace's words. Definitions only.
 use Rattle.std.specs.Prelude.{true, false, cond, List, ℕ, ◌*◌, Some}
 use Rattle.std.specs.Option.{option_or}
-use Rattle.answers.specs.declared.refusals.Refusal.{Refusal}
 use Rattle.program.specs.Opcodes as O
 use Rattle.depth.specs.Counters as D
 use Rattle.code.specs.Segments as G
@@ -9,40 +8,41 @@ use Rattle.builder.specs.declared.State.{State}
 use Rattle.builder.specs.Fields.{set_top, set_waiting, set_depth, set_refusal}
 
 -- the state, and the workspace's words
-abbrev pub Held : Type 0
-Held = State × List ℕ
-
--- a step beside the words
-abbrev pub still : (State → State) → Held → Held
-still f h = (f h.0, h.1)
-
-unfoldable pub emitted : ℕ → ℕ → Held → Held
-emitted front back h = (set_top (G.emitted_top h.0.top) h.0, G.emitted h.1 h.0.top front back)
+abbrev pub Held : Type 0 → Type 0
+Held R = State R × List ℕ
 
 -- the first word of an instruction that has its opcode alone
 abbrev pub alone : ℕ → ℕ
 alone op = op * 16777216
 
--- a Push that waits is put
-unfoldable pub flushed : Held → Held
-flushed h = cond h.0.waiting (emitted (alone O.PUSH) 0 (set_waiting false h.0, h.1)) h
+module _ {R : Type 0} where
+  -- a step beside the words
+  abbrev pub still : (State R → State R) → Held R → Held R
+  still f h = (f h.0, h.1)
 
-unfoldable pub put : ℕ → ℕ → Held → Held
-put front back h = emitted front back (flushed h)
+  unfoldable pub emitted : ℕ → ℕ → Held R → Held R
+  emitted front back h = (set_top (G.emitted_top h.0.top) h.0, G.emitted h.1 h.0.top front back)
 
--- 01, Modules, code.rs: "Const after Push becomes PushConst"
-unfoldable pub put_const : ℕ → Held → Held
-put_const index h =
-    cond h.0.waiting
-    (emitted (alone O.PUSH_CONST) index (set_waiting false h.0, h.1))
-    (emitted (alone O.CONST) index h)
+  -- a Push that waits is put
+  unfoldable pub flushed : Held R → Held R
+  flushed h = cond h.0.waiting (emitted (alone O.PUSH) 0 (set_waiting false h.0, h.1)) h
 
--- 01, Nine questions: "Of 5 to 8 the first met in lowering decides."
-unfoldable pub refused : Refusal → State → State
-refused why s = set_refusal (option_or s.refusal (Some why)) s
+  unfoldable pub put : ℕ → ℕ → Held R → Held R
+  put front back h = emitted front back (flushed h)
 
-unfoldable pub failed : Refusal → Held → Held
-failed why h = (refused why (flushed h).0, (flushed h).1)
+  -- 01, Modules, code.rs: "Const after Push becomes PushConst"
+  unfoldable pub put_const : ℕ → Held R → Held R
+  put_const index h =
+      cond h.0.waiting
+      (emitted (alone O.PUSH_CONST) index (set_waiting false h.0, h.1))
+      (emitted (alone O.CONST) index h)
 
-unfoldable pub pushed : State → State
-pushed s = set_waiting true (set_depth (D.pushed s.depth) s)
+  -- 01, Nine questions: "Of 5 to 8 the first met in lowering decides."
+  unfoldable pub refused : R → State R → State R
+  refused why s = set_refusal (option_or s.refusal (Some why)) s
+
+  unfoldable pub failed : R → Held R → Held R
+  failed why h = (refused why (flushed h).0, (flushed h).1)
+
+  unfoldable pub pushed : State R → State R
+  pushed s = set_waiting true (set_depth (D.pushed s.depth) s)

@@ -7,7 +7,6 @@ pub mod segments;
 ghost use Rattle.builder.specs.Done.{Did};
 ghost use Rattle.builder.specs.Steps.{emitted, flushed, put, put_const, still, pushed};
 
-use answers::refusals::Refusal;
 use code::segment;
 use depth::Depth;
 use program::ConstIdx;
@@ -19,9 +18,9 @@ const PUSH_CONST: u32 = 0x0e00_0000;
 
 const CONST: u32 = 0x0100_0000;
 
-// What every step changes stands together at the end: the compiler copies the rest in whole blocks.
+// How much of each region is in use, the depth, the open segment, the finished code, flags, a waiting Push, and the first refusal, of the caller's type R.
 #[derive(Clone, Copy, Drop)]
-pub struct State {
+pub struct State<R> {
     pub consts: u16,
     pub posts: u16,
     pub hashes: u16,
@@ -39,17 +38,17 @@ pub struct State {
     pub flags: u16,
     pub waiting: bool,
     pub float_loop: bool,
-    pub refusal: Option<Refusal>,
+    pub refusal: Option<R>,
 }
 
 // The state, and the workspace's words that were lent.
 #[derive(Drop)]
-pub struct Builder<'a> {
-    pub state: State,
+pub struct Builder<'a, R> {
+    pub state: State<R>,
     pub words: &'a mut [u32],
 }
 
-impl<'a> Builder<'a> {
+impl<'a, R: Copy + Drop> Builder<'a, R> {
     // Appends an instruction to the open code.
     #[tactic(auto, unfolding(crate::specs::Steps::emitted))]
     pub fn emit(&mut self, front: u32, back: u32)

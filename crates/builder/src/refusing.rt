@@ -3,11 +3,10 @@ ghost use Rattle.builder.specs.Done.{Did};
 ghost use Rattle.builder.specs.Steps.{still, refused, failed};
 
 use crate::Builder;
-use answers::refusals::Refusal;
 
-impl<'a> Builder<'a> {
+impl<'a, R: Copy + Drop> Builder<'a, R> {
     #[tactic(auto, unfolding(crate::specs::Steps::refused))]
-    fn refuse(&mut self, why: Refusal)
+    fn refuse(&mut self, why: R)
         ensures { Did self.old self.new (still (refused why)) }
     {
         self.state.refusal = self.state.refusal.or(Some(why));
@@ -15,7 +14,7 @@ impl<'a> Builder<'a> {
 
     // The first refusal stays.
     #[tactic(auto, unfolding(crate::specs::Steps::failed))]
-    pub fn failed(&mut self, why: Refusal)
+    pub fn failed(&mut self, why: R)
         ensures { Did self.old self.new (failed why) }
     {
         self.flush();

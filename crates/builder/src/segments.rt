@@ -7,7 +7,7 @@ ghost use Rattle.builder.specs.Segments.{within, targeted, breaks_resolved, open
 use crate::{Builder, State};
 use code::segment;
 
-impl State {
+impl<R: Copy + Drop> State<R> {
     // Where the next instruction goes, counted from the segment's start.
     pub fn place(&self) -> u16
         ensures { result ≡ self.now.top - self.now.base }
@@ -23,7 +23,7 @@ impl State {
     }
 }
 
-impl<'a> Builder<'a> {
+impl<'a, R: Copy + Drop> Builder<'a, R> {
     // Gives the instruction at a place of the open segment its target.
     #[tactic(auto, unfolding(crate::specs::Segments::targeted))]
     pub fn set_target(&mut self, at: u16, target: u32)

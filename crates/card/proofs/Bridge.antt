@@ -18,7 +18,7 @@ use Rattle.card.specs.declared.Sections.{Sections}
 use Rattle.workspace.specs.Layout.{OPEN, FINISHED, CONSTS, POSTS, HASHES, NAMES, TEMPS, MEMBERS, STORES, PATHS, CALLS, ARGUMENTS}
 use Rattle.card.specs.Written.{cat, joined}
 use Rattle.workspace.specs.Words.{plus}
-use Rattle.card.specs.Image.{word_entry, half_entry, instruction_bytes, instruction_entry, dotted_bytes, text_bytes, hash_bytes, name_bytes, name_entry, member_bytes, member_entry, store_bytes, store_at, store_entry, call_bytes, call_at, call_entry, code_section, consts_section, posts_section, hashes_section, names_section, temps_section, members_section, stores_section, calls_section, depths_bytes, closing_bytes, sections_of, body_of, image_of}
+use Rattle.card.specs.Image.{word_entry, half_entry, instruction_bytes, instruction_entry, dotted_bytes, text_bytes, hash_bytes, name_bytes, name_entry, member_bytes, member_entry, store_bytes, store_at, store_entry, call_bytes, call_at, call_entry, code_section, consts_section, posts_section, hashes_section, names_section, temps_section, members_section, stores_section, calls_section, closing_bytes, sections_of, body_of, image_of}
 use Rattle.card.specs.Holds.{Each, InstructionIs, NameIs, MemberIs, root_kind, StoreIs, CallIs, Holds}
 use Rattle.card.proofs.Shown.{number, every_at, counted, words_are, posts_are, hash_is, hashes_are, text_is, dotted_is}
 
@@ -182,7 +182,7 @@ module _ (tree ws : List ℕ) (c : Sections) (P : Program) (q : Holds tree ws c 
       (counted put_call d P.calls (call_entry ws c.code) q.calls_count (λ k l. call_is ws c.code (CALLS + 4 * k) _ (q.calls k l) (every_at FitCall d P.calls h.calls.each k l)) r)
 
   closing_is : put_closing P [] ≡ closing_bytes c
-  unfolding put_closing put_depths closing_bytes depths_bytes
+  unfolding put_closing put_depths closing_bytes
   closing_is =
       number 2 P.depths.operands _ ∙ ap₂ (λ v l. be 2 v [] ++ l) (sym q.stack)
       (number 2 P.depths.loops _ ∙ ap₂ (λ v l. be 2 v [] ++ l) (sym q.loops)

@@ -1,22 +1,16 @@
--- How what was written joins: one run behind another, one in front of another, one turn of a loop more, and the whole. Assumes nothing.
-use mathlib.Core.Path.{◌≡◌, refl, ap, sym, ◌∙◌}
+-- How what was written joins: one run behind another, one in front of another, one entry more, and the whole. Assumes nothing.
+use mathlib.Core.Path.{◌≡◌, refl, ap, ◌∙◌}
 use mathlib.Core.List.{List, [], ◌++◌}
-use Prim.Native.Nat.{ℕ, ◌+◌, ◌*◌, ◌≤◌}
+use Prim.Native.Nat.{ℕ, ◌+◌, ◌*◌, ◌≤◌, ◌<◌}
 use native.Mathlib.Numerals.{add-one}
-use native.Mathlib.Nat.{zero-add}
+use native.Mathlib.Nat.{zero-add, mul-le-mul_left}
 use native.Mathlib.Omega.{arith}
 use lib.ListN.{length, length-append, drop}
 use lib.Seq.{sets, sets-eq}
 use Rattle.wire.specs.Bytes.{be}
 use Rattle.wire.proofs.Numbers.{be_length}
-use Rattle.wire.proofs.Stores.{sets_join, sets_before}
-use Rattle.card.specs.declared.fields.Writer.{Writer}
+use Rattle.wire.proofs.Stores.{sets_append, sets_join, sets_before}
 use Rattle.card.specs.Written.{Wrote, cat}
-use Rattle.card.specs.Puts.{Puts}
-
--- a number of k bytes
-pub field : {s t : List ℕ} {at : ℕ} (k v : ℕ) → t ≡ sets s at (be k v []) → Wrote s at (be k v []) t (at + k)
-field {s} {t} {at} k v e = let l = be_length k v [] in record { bytes = e; next = omega arith }
 
 -- one behind the other
 pub join : {s t u vs ws : List ℕ} {at e r : ℕ} → Wrote s at vs t e → Wrote t e ws u r → Wrote s at (vs ++ ws) u r
@@ -36,24 +30,30 @@ ahead {s} {t} {u} {vs} {ws} {at} {e} {r} p q = record {
 pub being : {s t vs ws : List ℕ} {at r : ℕ} → Wrote s at vs t r → vs ≡ ws → Wrote s at ws t r
 being {s} {t} {vs} {ws} {at} {r} p e = rw (← e) p
 
--- the same by a writer: one behind the other, the same bytes written otherwise, and a wider bound
-pub then : {w v u : Writer} {vs us : List ℕ} {m k : ℕ} → Puts w v vs m → Puts v u us k → Puts w u (vs ++ us) (m + k)
-then p q = record { same = q.same ∙ p.same; wrote = join p.wrote q.wrote; within = omega (arith, p.within, q.within) }
+-- as equations: one run behind another, and its length
+pub behind : (s vs ws : List ℕ) (i j : ℕ) → j ≡ i + length vs → sets (sets s i vs) j ws ≡ sets s i (vs ++ ws)
+behind s vs ws i j e = ap (λ n. sets (sets s i vs) n ws) e ∙ sets_append s i vs ws
 
-pub as_is : {w v : Writer} {vs us : List ℕ} {m : ℕ} → Puts w v vs m → vs ≡ us → Puts w v us m
-as_is p e = record { same = p.same; wrote = being p.wrote e; within = p.within }
+pub run_length : (vs ws : List ℕ) → length (vs ++ ws) ≡ length vs + length ws
+run_length vs ws = length-append vs ws
 
-pub widened : {w v : Writer} {vs : List ℕ} {m k : ℕ} → Puts w v vs m → m ≤ k → Puts w v vs k
-widened p h = record { same = p.same; wrote = p.wrote; within = omega (arith, p.within) }
+pub field_length : (k v : ℕ) → length (be k v []) ≡ k
+field_length k v = be_length k v [] ∙ omega arith
 
--- a loop over entries begins, and goes one turn further
-pub begun : {w : Writer} (f : ℕ → List ℕ) (m : ℕ) → Puts w w (cat f 0) (m * 0)
+-- no entries, one entry more, and room for it
+pub no_entries : (f : ℕ → List ℕ) → cat f 0 ≡ []
 unfolding cat
-begun f m = record { same = refl; wrote = record { bytes = refl; next = omega arith }; within = omega arith }
+no_entries f = refl
 
-pub more : {w v u : Writer} (f : ℕ → List ℕ) (m i : ℕ) → Puts w v (cat f i) (m * i) → Puts v u (f i) m → Puts w u (cat f (i + 1)) (m * (i + 1))
+pub entry_more : (f : ℕ → List ℕ) (i : ℕ) → cat f (i + 1) ≡ cat f i ++ f i
 unfolding cat
-more f m i p q = widened (as_is (then p q) (sym (ap (cat f) (add-one i)))) (omega arith)
+entry_more f i = ap (cat f) (add-one i)
+
+pub room_more : (m i n : ℕ) → i < n → m * i + m ≤ m * n
+room_more m i n h = let next : i + 1 ≤ n = omega arith in omega (arith, mul-le-mul_left m next)
+
+-- what the check finds the promises of the writer by
+pub ruleset writing = (behind, run_length, field_length, no_entries, entry_more, room_more)
 
 -- all that was written from the start on, where it has its place
 pub whole : {s vs t : List ℕ} {r : ℕ} → Wrote s 0 vs t r → length vs ≤ length s → t ≡ vs ++ drop (length vs) s

@@ -1,12 +1,11 @@
 -- The entries that a workspace shows are written as the program's image has them: numbers, words, hashes and texts. Assumes nothing.
 use mathlib.Core.Path.{◌≡◌, refl, ap, ap₂, sym, ◌∙◌}
 use mathlib.Core.List.{List, [], ◌∷◌, ◌++◌, append_assoc, append-nil}
-use Prim.Native.Nat.{ℕ, zero, suc, ◌+◌, ◌*◌, ◌^◌, ◌≤◌, ◌<◌}
+use Prim.Native.Nat.{ℕ, zero, suc, ◌+◌, ◌*◌, ◌^◌, ◌<◌}
 use native.Mathlib.Numerals.{add-one}
 use native.Mathlib.Nat.{add-zero}
 use native.Mathlib.Omega.{arith}
-use lib.ListN.{length, length-drop, get_or, take, drop}
-use lib.Seq.{length-take-le, get_or-take, get_or-drop}
+use lib.ListN.{length, get_or}
 use Rattle.wire.specs.Bytes.{be8, be}
 use Rattle.wire.specs.Reader.{entries, list}
 use Rattle.wire.proofs.Numbers.{be_append, be_eight}
@@ -125,10 +124,3 @@ dotted_is tree o t q r =
     let m = cat (byte_entry tree (o + 1)) n in
     number 2 (suc (length t)) _ ∙ ap₂ (λ k l. be 2 k [] ++ l) e (number 1 46 _ ∙ ap (λ l. be 1 46 [] ++ l) (letters_are tree o t q r))
     ∙ sym (append_assoc (be 2 (n + 1) []) (be 1 46 []) (m ++ r)) ∙ sym (append_assoc (be 2 (n + 1) [] ++ be 1 46 []) m r)
-
--- the text that ast's name_at reads behind a length byte, where it lies within the tree image
-pub text_at : (tree : List ℕ) (o : ℕ) → o + 1 + get_or tree o 0 ≤ length tree → TextIs tree o (take (get_or tree o 0) (drop (o + 1) tree))
-text_at tree o h =
-    let n = get_or tree o 0 in
-    let l : length (take n (drop (o + 1) tree)) ≡ n = length-take-le n (drop (o + 1) tree) (rw length-drop (omega arith)) in
-    record { count = sym l; letters = λ k i. sym (get_or-take n (drop (o + 1) tree) k 0 (omega (arith, l)) ∙ get_or-drop (o + 1) tree k 0) }

@@ -129,16 +129,16 @@ module _ (tree ws : List ℕ) (c : Sections) where
   Standing s closing k t = Wrote s (closing - sum k) (joined (drop k sections) (closing_bytes c)) t (closing + length (closing_bytes c))
 
   -- the closing fields alone, one section more, and all nine
-  pub closed : (closing : ℕ) {s t : List ℕ} → t ≡ sets s closing (closing_bytes c) → Standing s closing 9 t
+  pub closed : (closing : ℕ) {s t : List ℕ} {r : ℕ} → Wrote s closing (closing_bytes c) t r → Standing s closing 9 t
   unfolding sum_to sections_of sum_of joined
-  closed closing {s} e = record { bytes = e ∙ ap (λ n. sets s n (closing_bytes c)) (omega arith); next = omega arith }
+  closed closing {s} w = record { bytes = w.bytes ∙ ap (λ n. sets s n (closing_bytes c)) (omega arith); next = omega arith }
 
-  pub one_more : (k : ℕ) {closing : ℕ} (n : ℕ) {s t u : List ℕ} → k < length sections → n ≡ sum k → closing ≡ closing_start tree ws c
-      → Standing s closing (suc k) t → u ≡ sets t (closing - n) (section k) → Standing s closing k u
+  pub one_more : (k : ℕ) {closing : ℕ} (n : ℕ) {s t u : List ℕ} {r : ℕ} → k < length sections → n ≡ sum k → closing ≡ closing_start tree ws c
+      → Standing s closing (suc k) t → Wrote t (closing - n) (section k) u r → Standing s closing k u
   unfolding joined
   one_more k {closing} n {s} {t} {u} h p q w e =
       let l : closing - sum (suc k) ≡ closing - n + length (section k) = omega (arith, step k h refl refl, within k p q, p) in
-      let v : Wrote t (closing - n) (section k) u (closing - sum (suc k)) = record { bytes = e; next = l } in
+      let v : Wrote t (closing - n) (section k) u (closing - sum (suc k)) = record { bytes = e.bytes; next = l } in
       let x = being (ahead w v) (sym (ap (λ l. joined l (closing_bytes c)) (drop-cons sections k [] h))) in
       rw (← p) x
 

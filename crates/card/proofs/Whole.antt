@@ -5,14 +5,11 @@ use Prim.Native.Nat.{ℕ, ◌+◌, ◌%◌, ◌≤◌, ◌<◌}
 use native.Mathlib.Omega.{arith}
 use lib.ListN.{length, length-append, drop}
 use borrow.Author.Tests.{le-leb, lt-leb}
-use Rattle.std.proofs.Common.{Result, Ok, Err}
-use Rattle.answers.specs.declared.refusals.Refusal.{Refusal}
-use Rattle.answers.specs.declared.refusals.Refusal.TheVariants.{SmallOutput}
 use Rattle.wire.specs.Bytes.{be}
 use Rattle.wire.proofs.Numbers.{be_length}
 use Rattle.card.specs.declared.Sections.{Sections}
 use Rattle.card.specs.Written.{Wrote}
-use Rattle.card.specs.Image.{body_of, image_of, laid, answer_of}
+use Rattle.card.specs.Image.{body_of, image_of, laid}
 use Rattle.card.proofs.Join.{whole, long, being}
 
 pub image_length : (tree ws : List ℕ) (c : Sections) → length (image_of tree ws c) ≡ length (body_of tree ws c) + 5
@@ -30,14 +27,6 @@ left img s h = rw lt-leb
 pub placed : (img s : List ℕ) → length img ≤ length s → img ++ drop (length img) s ≡ laid img s
 unfolding laid
 placed img s h = rw le-leb
-
-pub nine : (img s : List ℕ) → length s < length img → Err SmallOutput ≡ answer_of img s
-unfolding answer_of
-nine img s h = rw lt-leb
-
-pub good : (img s : List ℕ) (n : ℕ) → n ≡ length img → length img ≤ length s → Ok n ≡ answer_of img s
-unfolding answer_of
-good img s n e h = rw (le-leb, e)
 
 same : (tree ws : List ℕ) (c : Sections) {n : ℕ} → n ≡ length (body_of tree ws c) → be 1 1 [] ++ be 4 (n % 4294967296) [] ++ body_of tree ws c ≡ image_of tree ws c
 unfolding image_of

@@ -106,7 +106,7 @@ unfoldable pub calls_section : List ℕ → ℕ → ℕ → List ℕ
 calls_section ws base n = be 4 n [] ++ cat (call_entry ws base) n
 
 -- 01, The program image: "Then stack, loops, handlers (2 each), flags (2), float_loop (1)."
-unfoldable pub depths_bytes : Sections → List ℕ
+abbrev pub depths_bytes : Sections → List ℕ
 depths_bytes c = be 2 c.stack [] ++ be 2 c.loops [] ++ be 2 c.handlers []
 
 unfoldable pub closing_bytes : Sections → List ℕ

@@ -1,10 +1,12 @@
 // The nine sections, each a count and its entries, and the closing fields.
+#![tactic(auto, using(crate::proofs::Join::writing))]
+
 ghost use Rattle.std.specs.Prelude.{◌≡◌, [], ◌++◌, ◌+◌, ◌*◌, ◌^◌, ◌≤◌, ◌<◌, length};
-ghost use Rattle.std.proofs.lemmas.List.Edits.{sets};
 ghost use Rattle.wire.specs.Bytes.{be};
 ghost use Rattle.numeric.specs.Post.{identity};
 ghost use Rattle.numeric.specs.PostOp.{patterns};
 ghost use Rattle.card.specs.Written.{Wrote, cat};
+ghost use Rattle.card.specs.Puts.{Room, Puts};
 ghost use Rattle.card.specs.Image.{code_section, posts_section, hashes_section, closing_bytes, body_of, image_of};
 ghost use Rattle.card.specs.Starts.{sums_of, closing_start, start_from_back};
 
@@ -14,37 +16,6 @@ use crate::fields::{Entries, Words, Writer};
 use crate::measure::Sums;
 use numeric::{PostBits, PostOp};
 use workspace::layout;
-
-// A section: the count of its entries, and the entries. `as` widens a count here and below, since a proof reads through it and not through `from`.
-fn put_section<E: Entries>(entries: &E, n: u16, out: &mut [u8], at: usize)
-    requires { at + (4 + E.most * n) < 2 ^ 60 }
-    ensures { out.new ≡ sets out.old at (be 4 n [] ++ cat (E.bytes_of entries.now) n) }
-{
-    let mut w = Writer { out, at };
-    w.word(n as u32);
-    w.all(entries, n as usize);
-}
-
-// The main code, then the argument code with the main code's length added to its targets.
-fn put_code(ws: &[u32], n: u16, m: u16, out: &mut [u8], at: usize)
-    requires { at < 2 ^ 56 }
-    ensures { out.new ≡ sets out.old at (code_section ws.now n m) }
-{
-    let main = Instructions {
-        ws,
-        from: layout::OPEN,
-        base: 0,
-    };
-    let finished = Instructions {
-        ws,
-        from: layout::FINISHED,
-        base: n as u32,
-    };
-    let mut w = Writer { out, at };
-    w.word(n as u32 + m as u32);
-    w.all(&main, n as usize);
-    w.all(&finished, m as usize);
-}
 
 // Slot 0: the identity by its bit patterns.
 fn identity_bits() -> PostBits
@@ -57,48 +28,80 @@ fn identity_bits() -> PostBits
     }
 }
 
-fn put_posts(ws: &[u32], n: u16, out: &mut [u8], at: usize)
-    requires { at < 2 ^ 56 }
-    ensures { out.new ≡ sets out.old at (posts_section ws.now n) }
-{
-    let plain = identity_bits();
-    let further = Words {
-        ws,
-        from: layout::POSTS,
-        base: 0,
-    };
-    let mut w = Writer { out, at };
-    w.word(n as u32 + 1);
-    w.word(plain.scale);
-    w.word(plain.offset);
-    w.all(&further, 2 * (n as usize));
-}
+impl Writer<'_> {
+    // A section: the count of its entries, and the entries.
+    fn section<E: Entries>(&mut self, entries: &E, n: u16)
+        requires { Room self.old (4 + E.most * n) }
+        ensures { Puts self.old self.new (be 4 n [] ++ cat (E.bytes_of entries.now) n) (4 + E.most * n) }
+    {
+        self.word(u32::from(n));
+        self.all(entries, usize::from(n));
+    }
 
-// A count of pairs, and twice as many words.
-fn put_hashes(ws: &[u32], n: u16, out: &mut [u8], at: usize)
-    requires { at < 2 ^ 56 }
-    ensures { out.new ≡ sets out.old at (hashes_section ws.now n) }
-{
-    let hashes = Words {
-        ws,
-        from: layout::HASHES,
-        base: 0,
-    };
-    let mut w = Writer { out, at };
-    w.word(n as u32);
-    w.all(&hashes, 2 * (n as usize));
-}
+    // The main code, then the argument code with the main code's length added to its targets.
+    #[tactic(auto, using(crate::proofs::Join::writing), unfolding(crate::specs::Image::code_section))]
+    fn code(&mut self, ws: &[u32], n: u16, m: u16)
+        requires { Room self.old (4 + 8 * n + 8 * m) }
+        ensures { Puts self.old self.new (code_section ws.now n m) (4 + 8 * n + 8 * m) }
+    {
+        let main = Instructions {
+            ws,
+            from: layout::OPEN,
+            base: 0,
+        };
+        let finished = Instructions {
+            ws,
+            from: layout::FINISHED,
+            base: u32::from(n),
+        };
+        self.word(u32::from(n) + u32::from(m));
+        self.all(&main, usize::from(n));
+        self.all(&finished, usize::from(m));
+    }
 
-fn put_closing(c: Sections, out: &mut [u8], at: usize)
-    requires { at < 2 ^ 56 }
-    ensures { out.new ≡ sets out.old at (closing_bytes c) }
-{
-    let mut w = Writer { out, at };
-    w.half(c.stack);
-    w.half(c.loops);
-    w.half(c.handlers);
-    w.half(c.flags);
-    w.byte(u8::from(c.float_loop));
+    #[tactic(auto, using(crate::proofs::Join::writing), unfolding(crate::specs::Image::posts_section))]
+    fn posts(&mut self, ws: &[u32], n: u16)
+        requires { Room self.old (12 + 8 * n) }
+        ensures { Puts self.old self.new (posts_section ws.now n) (12 + 8 * n) }
+    {
+        let plain = identity_bits();
+        let further = Words {
+            ws,
+            from: layout::POSTS,
+            base: 0,
+        };
+        self.word(u32::from(n) + 1);
+        self.word(plain.scale);
+        self.word(plain.offset);
+        self.all(&further, 2 * usize::from(n));
+    }
+
+    // A count of pairs, and twice as many words.
+    #[tactic(auto, using(crate::proofs::Join::writing), unfolding(crate::specs::Image::hashes_section))]
+    fn hashes(&mut self, ws: &[u32], n: u16)
+        requires { Room self.old (4 + 8 * n) }
+        ensures { Puts self.old self.new (hashes_section ws.now n) (4 + 8 * n) }
+    {
+        let hashes = Words {
+            ws,
+            from: layout::HASHES,
+            base: 0,
+        };
+        self.word(u32::from(n));
+        self.all(&hashes, 2 * usize::from(n));
+    }
+
+    #[tactic(auto, using(crate::proofs::Join::writing), unfolding(crate::specs::Image::closing_bytes, program::specs::Image::bit))]
+    fn closing(&mut self, c: Sections)
+        requires { Room self.old 9 }
+        ensures { Puts self.old self.new (closing_bytes c) 9 }
+    {
+        self.half(c.stack);
+        self.half(c.loops);
+        self.half(c.handlers);
+        self.half(c.flags);
+        self.byte(u8::from(c.float_loop));
+    }
 }
 
 // All that stands behind the length, from the back: each section begins at the closing fields' place less the running sum that ends with it.
@@ -109,29 +112,40 @@ pub(crate) fn put_body(
     c: Sections,
     s: Sums,
     closing: usize,
-    out: &mut [u8],
+    w: &mut Writer<'_>,
 )
     requires { (s ≡ sums_of tree.now ws.now c) × (closing ≡ closing_start tree.now ws.now c) × (closing < 2 ^ 54) }
-    ensures { Wrote out.old (start_from_back tree.now ws.now c 0)
-        (body_of tree.now ws.now c) out.new (length (image_of tree.now ws.now c)) }
+    ensures same { w.new.out.ghost_name ≡ w.old.out.ghost_name }
+    ensures wrote { Wrote w.old.out.now (start_from_back tree.now ws.now c 0)
+        (body_of tree.now ws.now c) w.new.out.now (length (image_of tree.now ws.now c)) }
 {
     let starts = Calls {
         ws,
-        base: c.code as u32,
+        base: u32::from(c.code),
     };
     let consts = Words {
         ws,
         from: layout::CONSTS,
         base: 0,
     };
-    put_closing(c, out, closing);
-    put_section(&starts, c.calls, out, closing - s.calls);
-    put_section(&Stores { ws }, c.stores, out, closing - s.stores);
-    put_section(&Members { tree, ws }, c.members, out, closing - s.members);
-    put_section(&Temps { ws }, c.temps, out, closing - s.temps);
-    put_section(&Names { tree, ws }, c.names, out, closing - s.names);
-    put_hashes(ws, c.hashes, out, closing - s.hashes);
-    put_posts(ws, c.posts, out, closing - s.posts);
-    put_section(&consts, c.consts, out, closing - s.consts);
-    put_code(ws, c.code, c.finished, out, closing - s.code);
+    w.at = closing;
+    w.closing(c);
+    w.at = closing - s.calls;
+    w.section(&starts, c.calls);
+    w.at = closing - s.stores;
+    w.section(&Stores { ws }, c.stores);
+    w.at = closing - s.members;
+    w.section(&Members { tree, ws }, c.members);
+    w.at = closing - s.temps;
+    w.section(&Temps { ws }, c.temps);
+    w.at = closing - s.names;
+    w.section(&Names { tree, ws }, c.names);
+    w.at = closing - s.hashes;
+    w.hashes(ws, c.hashes);
+    w.at = closing - s.posts;
+    w.posts(ws, c.posts);
+    w.at = closing - s.consts;
+    w.section(&consts, c.consts);
+    w.at = closing - s.code;
+    w.code(ws, c.code, c.finished);
 }

@@ -1,4 +1,6 @@
-// The sections' entries: what each kind writes for one index.
+// The sections' entries: what each kind writes for one index. `as` cuts a word, or takes it to a usize: for neither is there a `From`.
+#![tactic(auto, using(crate::proofs::Join::writing))]
+
 ghost use Rattle.std.specs.Prelude.{◌≡◌, ◌+◌, ◌*◌, ◌^◌, ◌≤◌, ◌<◌};
 ghost use Rattle.workspace.specs.Layout.{TEMPS};
 ghost use Rattle.card.specs.Puts.{Room, Puts};
@@ -21,6 +23,7 @@ use workspace::layout;
 use workspace::words::{plus, word};
 
 // Opcode, sub, A and B.
+#[tactic(auto, using(crate::proofs::Join::writing), unfolding(crate::specs::Image::instruction_bytes))]
 fn put_instruction(w: u32, a: u32, base: u32, out: &mut Writer<'_>)
     requires { Room out.old 8 }
     ensures { Puts out.old out.new (instruction_bytes base w a) 8 }
@@ -54,25 +57,27 @@ impl Entries for Instructions<'_> {
     }
 }
 
-// The text of the tree image whose length byte stands at `o`. `as` widens the length, since a proof reads through it and not through `from`.
+// The text of the tree image whose length byte stands at `o`.
+#[tactic(auto, using(crate::proofs::Join::writing), unfolding(crate::specs::Image::text_bytes))]
 fn put_text(tree: &[u8], o: u32, out: &mut Writer<'_>)
     requires { Room out.old 257 }
     ensures { Puts out.old out.new (text_bytes tree.now o) 257 }
 {
     let k = o as usize;
     let n = wire::get_u8(tree, k, 0);
-    out.half(n as u16);
+    out.half(u16::from(n));
     out.bytes(tree, k + 1, n);
 }
 
 // The same with a dot in front.
+#[tactic(auto, using(crate::proofs::Join::writing), unfolding(crate::specs::Image::dotted_bytes))]
 fn put_dotted(tree: &[u8], o: u32, out: &mut Writer<'_>)
     requires { Room out.old 258 }
     ensures { Puts out.old out.new (dotted_bytes tree.now o) 258 }
 {
     let k = o as usize;
     let n = wire::get_u8(tree, k, 0);
-    out.half(n as u16 + 1);
+    out.half(u16::from(n) + 1);
     out.byte(b'.');
     out.bytes(tree, k + 1, n);
 }
@@ -99,6 +104,7 @@ impl Entries for Names<'_> {
 
     ghost most = { 265 };
 
+    #[tactic(auto, using(crate::proofs::Join::writing), unfolding(crate::specs::Image::name_bytes))]
     fn put(&self, i: usize, out: &mut Writer<'_>) {
         let k = layout::NAMES + 3 * i;
         let o = word(self.ws, k + 2);
@@ -135,6 +141,7 @@ impl Entries for Members<'_> {
 
     ghost most = { 524 };
 
+    #[tactic(auto, using(crate::proofs::Join::writing), unfolding(crate::specs::Image::member_bytes))]
     fn put(&self, i: usize, out: &mut Writer<'_>) {
         let k = layout::MEMBERS + 6 * i;
         let o = word(self.ws, k + 4);
@@ -156,22 +163,23 @@ impl Entries for Stores<'_> {
 
     ghost most = { 524285 };
 
+    #[tactic(auto, using(crate::proofs::Join::writing), unfolding(crate::specs::Image::store_bytes))]
     fn put(&self, i: usize, out: &mut Writer<'_>) {
         let ws = self.ws;
         let k = layout::STORES + 4 * i;
         let root = word(ws, k);
         let index = word(ws, k + 1);
         let first = word(ws, k + 2);
-        let count = word(ws, k + 3) % 65536;
+        let count = (word(ws, k + 3) % 65536) as u16;
         out.byte((root % 256) as u8);
         out.half((index % 65536) as u16);
-        out.half(count as u16);
+        out.half(count);
         let path = Words {
             ws,
             from: layout::PATHS + 2 * (first as usize),
             base: 0,
         };
-        out.all(&path, 2 * (count as usize));
+        out.all(&path, 2 * usize::from(count));
     }
 }
 
@@ -187,21 +195,22 @@ impl Entries for Calls<'_> {
 
     ghost most = { 262145 };
 
+    #[tactic(auto, using(crate::proofs::Join::writing), unfolding(crate::specs::Image::call_bytes))]
     fn put(&self, i: usize, out: &mut Writer<'_>) {
         let ws = self.ws;
         let k = layout::CALLS + 4 * i;
         let index = word(ws, k);
         let impl_idx = word(ws, k + 1);
-        let count = word(ws, k + 2) % 65536;
+        let count = (word(ws, k + 2) % 65536) as u16;
         let first = word(ws, k + 3);
         out.half((index % 65536) as u16);
         out.byte((impl_idx % 256) as u8);
-        out.half(count as u16);
+        out.half(count);
         let starts = Words {
             ws,
             from: layout::ARGUMENTS + first as usize,
             base: self.base,
         };
-        out.all(&starts, count as usize);
+        out.all(&starts, usize::from(count));
     }
 }

@@ -1,5 +1,5 @@
 // Fields of the image: numbers behind one another, and runs of them.
-#![tactic(auto, using(crate::proofs::Join::field))]
+#![tactic(auto, using(crate::proofs::Join::writing))]
 
 ghost use Rattle.std.specs.Prelude.{◌≡◌, List, [], ℕ, ◌+◌, ◌*◌, ◌^◌, ◌≤◌, ◌<◌};
 ghost use Rattle.wire.specs.Bytes.{be};
@@ -9,24 +9,8 @@ ghost use Rattle.card.specs.Image.{word_entry, byte_entry};
 
 use workspace::words::{plus, word};
 
-// A number at `at`; the place behind it. For the image's head.
-pub(crate) fn put_byte(out: &mut [u8], at: usize, n: u8) -> usize
-    requires { at < 2 ^ 62 }
-    ensures { Wrote out.old at (be 1 n []) out.new result × (result ≡ at + 1) }
-{
-    endian::put_u8(out, at, n);
-    at + 1
-}
-
-pub(crate) fn put_word(out: &mut [u8], at: usize, n: u32) -> usize
-    requires { at < 2 ^ 62 }
-    ensures { Wrote out.old at (be 4 n []) out.new result × (result ≡ at + 4) }
-{
-    endian::put_u32(out, at, n);
-    at + 4
-}
-
-// The output, and the place of the next byte. What lies past the end of the output is not written.
+// The output, and the place of the next byte. What lies past the end of the output is not written. How much room a call asks for differs from call to
+// call, so it is asked (`Room`), and is no invariant.
 #[derive(Drop)]
 pub(crate) struct Writer<'a> {
     pub(crate) out: &'a mut [u8],
@@ -58,14 +42,19 @@ impl Writer<'_> {
         self.at += 4;
     }
 
-    // The first `n` entries, one behind the other.
+    // The first `n` entries, one behind the other: by a writer of its own, whose place the compiler keeps in a register.
     pub(crate) fn all<E: Entries>(&mut self, entries: &E, n: usize)
         requires { (n < 2 ^ 20) × Room self.old (E.most * n) }
         ensures { Puts self.old self.new (cat (E.bytes_of entries.now) n) (E.most * n) }
     {
+        let mut w = Writer {
+            out: self.out,
+            at: self.at,
+        };
         for i in 0..n {
-            entries.put(i, self);
+            entries.put(i, &mut w);
         }
+        self.at = w.at;
     }
 
     // The `n` bytes of the tree image from `from` on, in one run where they have their place.
@@ -73,7 +62,7 @@ impl Writer<'_> {
         requires { Room self.old n }
         ensures { Puts self.old self.new (cat (byte_entry tree.now from) n) n }
     {
-        let k = n as usize;
+        let k = usize::from(n);
         let at = self.at;
         let (size, room) = (tree.len(), self.out.len());
         if from <= size && k <= size - from && at <= room && k <= room - at {
@@ -130,6 +119,7 @@ impl Entries for Bytes<'_> {
     ghost most = { 1 };
 
     fn put(&self, i: usize, out: &mut Writer<'_>) {
+        // `as`, since a usize has no `From` into a u32.
         let b = wire::get_u8(self.tree, self.from, i as u32);
         out.byte(b);
     }

@@ -11,7 +11,7 @@ ghost use Rattle.card.specs.Image.{image_of, laid, answer_of};
 
 use answers::refusals::Refusal;
 use body::put_body;
-use fields::{put_byte, put_word};
+use fields::Writer;
 use measure::sums_of;
 
 // How many entries each region holds, and the closing fields; `posts` without slot 0.
@@ -41,7 +41,8 @@ const HEADER: usize = 5;
 
 const CLOSING: usize = 9;
 
-// The image, where it has its place in `out`; its length.
+// The image, where it has its place in `out`; its length. `as`, since a usize has no `From` into a u32.
+#[tactic(auto, using(crate::proofs::Whole::left, crate::proofs::Starts::total, crate::proofs::Starts::closing_is, crate::proofs::Whole::image_length,))]
 fn write_image(tree: &[u8], ws: &[u32], c: Sections, out: &mut [u8]) -> usize
     ensures { (out.new ≡ laid (image_of tree.now ws.now c) out.old)
         × (result ≡ length (image_of tree.now ws.now c)) }
@@ -52,13 +53,15 @@ fn write_image(tree: &[u8], ws: &[u32], c: Sections, out: &mut [u8]) -> usize
     if long {
         return n;
     }
-    let e = put_byte(out, 0, VERSION);
-    put_word(out, e, ((n - HEADER) % 4294967296) as u32);
-    put_body(tree, ws, c, s, n - CLOSING, out);
+    let mut w = Writer { out, at: 0 };
+    w.byte(VERSION);
+    w.word(((n - HEADER) % 4294967296) as u32);
+    put_body(tree, ws, c, s, n - CLOSING, &mut w);
     n
 }
 
 // The same; its length, or the refusal where the image has no place.
+#[tactic(auto, unfolding(crate::specs::Image::answer_of), using(std::proofs::lemmas::Bool::Decides::nat_tests))]
 pub fn finish(tree: &[u8], ws: &[u32], c: Sections, out: &mut [u8]) -> Result<usize, Refusal>
     ensures { (result ≡ answer_of (image_of tree.now ws.now c) out.old)
         × (out.new ≡ laid (image_of tree.now ws.now c) out.old) }

@@ -1,4 +1,6 @@
-// The sections' sizes, counted and not written, and their running sums from the back.
+// The sections' sizes, counted and not written, and their running sums from the back. `as` takes a word to a usize, for which there is no `From`.
+#![tactic(auto, using(crate::proofs::Lengths::lengths))]
+
 ghost use Rattle.std.specs.Prelude.{◌≡◌, ◌+◌, ◌*◌, ◌^◌, ◌≤◌, ◌<◌, length};
 ghost use Rattle.card.specs.Written.{cat};
 ghost use Rattle.card.specs.Starts.{sums_of};
@@ -39,6 +41,7 @@ trait Measured: Entries {
 }
 
 impl Measured for Names<'_> {
+    #[tactic(auto, using(crate::proofs::Lengths::lengths), unfolding(crate::specs::Image::name_bytes, crate::specs::Image::text_bytes))]
     fn size(&self, i: usize) -> usize {
         let o = word(self.ws, layout::NAMES + 3 * i + 2);
         let t = wire::get_u8(self.tree, o as usize, 0);
@@ -47,6 +50,7 @@ impl Measured for Names<'_> {
 }
 
 impl Measured for Members<'_> {
+    #[tactic(auto, using(crate::proofs::Lengths::lengths), unfolding(crate::specs::Image::member_bytes, crate::specs::Image::dotted_bytes))]
     fn size(&self, i: usize) -> usize {
         let o = word(self.ws, layout::MEMBERS + 6 * i + 4);
         let p = word(self.ws, layout::MEMBERS + 6 * i + 5);
@@ -57,6 +61,7 @@ impl Measured for Members<'_> {
 }
 
 impl Measured for Stores<'_> {
+    #[tactic(auto, using(crate::proofs::Lengths::lengths), unfolding(crate::specs::Image::store_bytes))]
     fn size(&self, i: usize) -> usize {
         let k = word(self.ws, layout::STORES + 4 * i + 3);
         STORE + PAIR * ((k % 65536) as usize)
@@ -64,6 +69,7 @@ impl Measured for Stores<'_> {
 }
 
 impl Measured for Calls<'_> {
+    #[tactic(auto, using(crate::proofs::Lengths::lengths), unfolding(crate::specs::Image::call_bytes))]
     fn size(&self, i: usize) -> usize {
         let k = word(self.ws, layout::CALLS + 4 * i + 2);
         CALL + WORD * ((k % 65536) as usize)
@@ -71,13 +77,12 @@ impl Measured for Calls<'_> {
 }
 
 // The bytes of the first `n` entries.
-#[tactic(auto, using(crate::proofs::Lengths::begun, crate::proofs::Lengths::more))]
 fn sizes<E: Measured>(entries: &E, n: u16) -> usize
     requires { E.Entries.most < 2 ^ 20 }
     ensures { (result ≡ length (cat (E.Entries.bytes_of entries.now) n)) × (result ≤ 2 ^ 20 * n) }
 {
     let mut sum: usize = 0;
-    for i in 0..n as usize {
+    for i in 0..usize::from(n) {
         sum += entries.size(i);
     }
     sum
@@ -97,23 +102,23 @@ pub(crate) struct Sums {
     pub(crate) calls: usize,
 }
 
-// From calls to code, one section more at each step; a post stands in slot 0 too. `as` widens a count, since a proof reads through it and not through `from`.
+// From calls to code, one section more at each step; a post stands in slot 0 too.
 pub(crate) fn sums_of(tree: &[u8], ws: &[u32], c: Sections) -> Sums
     ensures { (result ≡ sums_of tree.now ws.now c) × (result.code ≤ 2 ^ 44) }
 {
     let starts = Calls {
         ws,
-        base: c.code as u32,
+        base: u32::from(c.code),
     };
     let calls = COUNT + sizes(&starts, c.calls);
     let stores = COUNT + sizes(&Stores { ws }, c.stores) + calls;
     let members = COUNT + sizes(&Members { tree, ws }, c.members) + stores;
-    let temps = COUNT + HALF * (c.temps as usize) + members;
+    let temps = COUNT + HALF * usize::from(c.temps) + members;
     let names = COUNT + sizes(&Names { tree, ws }, c.names) + temps;
-    let hashes = COUNT + PAIR * (c.hashes as usize) + names;
-    let posts = COUNT + PAIR * (c.posts as usize + 1) + hashes;
-    let consts = COUNT + WORD * (c.consts as usize) + posts;
-    let code = COUNT + INSTRUCTION * (c.code as usize + c.finished as usize) + consts;
+    let hashes = COUNT + PAIR * usize::from(c.hashes) + names;
+    let posts = COUNT + PAIR * (usize::from(c.posts) + 1) + hashes;
+    let consts = COUNT + WORD * usize::from(c.consts) + posts;
+    let code = COUNT + INSTRUCTION * (usize::from(c.code) + usize::from(c.finished)) + consts;
     Sums {
         code,
         consts,

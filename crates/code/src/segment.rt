@@ -7,7 +7,7 @@ use program::targets;
 use workspace::layout;
 use workspace::words::{plus, put_pair, put_word, word};
 
-// The first words of a Break and a Continue that wait for their loop (no opcodes of the card), and of a Jump.
+// The first words of a Break and a Continue that wait for their loop (no opcodes of the card), and of a Jump. Numbers, since the lent workspace is words.
 pub const BREAK: u32 = 0xfa00_0000;
 
 pub const CONTINUE: u32 = 0xfb00_0000;
@@ -95,7 +95,7 @@ pub fn resolve_breaks(ws: &mut [u32], from: u16, count: u16, check: u32, cleanup
     }
 }
 
-// Copies an instruction, `by` added to its target where it has one.
+// Copies an instruction, `by` added to its target where it has one. `as` cuts a byte that fits: a `try_from` would have a case that never comes.
 #[tactic(auto, unfolding(crate::specs::Segments::relocated_one))]
 fn move_one(ws: &mut [u32], from: usize, to: usize, by: u32)
     requires { (from < 4294967296) × (to < 4294967296) }

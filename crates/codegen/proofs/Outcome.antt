@@ -1,17 +1,9 @@
 -- What is written and answered of a lowered tree is what the nine questions say. Assumes nothing.
-use Rattle.std.proofs.Common.{None, Some, Result, Ok, Err}
+use Rattle.std.proofs.Common.{rules, None, Some, Result, Ok, Err, ◌≡◌, refl, sym, ap, subst, ◌∙◌, Bool, true, false, cond, List, [], ◌∷◌, ◌++◌, ℕ, zero, suc, ◌≤◌, ◌<◌, arith, length, get_or, take, drop, replicate, leb, le-leb}
 use Rattle.answers.specs.Refusals.{number_of, number_of_first}
 use Rattle.answers.specs.declared.refusals.Refusal.{Refusal}
-use Rattle.answers.specs.declared.refusals.Refusal.TheVariants.{SmallWorkspace, NoTreeImage, Damaged, TooDeep, UsesArrays, UsesResources, Failed, WriteToOtherMob, SmallOutput}
-use mathlib.Core.Path.{◌≡◌, refl, sym, ap, subst, ◌∙◌}
-use mathlib.Core.Bool.{Bool, true, false, cond}
-use mathlib.Core.List.{List, [], ◌∷◌, ◌++◌}
-use Prim.Native.Nat.{ℕ, zero, suc, ◌≤◌, ◌<◌}
-use native.Mathlib.Omega.{arith}
-use lib.Dec.{leb}
-use lib.ListN.{length, get_or, take, drop, replicate}
+use Rattle.answers.specs.declared.refusals.Refusal.TheVariants.{SmallWorkspace, SmallOutput}
 use lib.Seq.{take-append_seam}
-use borrow.Author.Tests.{le-leb, lt-leb}
 use Rattle.wire.specs.Bytes.{Bytes}
 use Rattle.ast.specs.Node.{parse}
 use Rattle.ast.specs.Questions.{questions}
@@ -26,8 +18,8 @@ use Rattle.semantics.proofs.AcceptedTrees.{parsed_fits, parsed_short}
 use Rattle.card.specs.Image.{image_of, laid, answer_of}
 use Rattle.card.proofs.Bridge.{image_is}
 use Rattle.card.specs.declared.Sections.{Sections}
-use Rattle.builder.specs.declared.State as B
-use Rattle.builder.specs.Steps.{Held}
+use Rattle.lowering.specs.Held as B
+use Rattle.lowering.specs.Held.{Held}
 use Rattle.lowering.specs.Rules as R
 use Rattle.representation.specs.Sections.{sections_of}
 use Rattle.representation.proofs.Whole.{holds, refusal_is}
@@ -43,14 +35,7 @@ all_bytes (x ∷ s) h = (h 0 (omega arith), all_bytes s (λ i l. h (suc i) (omeg
 -- no refusal has the number of acceptance
 refuses : (why : Refusal) → number_of why ≡ 0 → ⊥
 refuses SmallWorkspace e = omega (arith, e)
-refuses NoTreeImage e = omega (arith, e)
-refuses Damaged e = omega (arith, e)
-refuses TooDeep e = omega (arith, e)
-refuses UsesArrays e = omega (arith, e)
-refuses UsesResources e = omega (arith, e)
-refuses Failed e = omega (arith, e)
-refuses WriteToOtherMob e = omega (arith, e)
-refuses SmallOutput e = omega (arith, e)
+refuses why e = omega (arith, e)
 
 pub refused_early : (tree out : List ℕ) (r : ℕ) → r ≡ questions tree → (r ≡ 0 → ⊥) → Asked tree out out (record { number = r; length = 0 })
 unfolding refusal_of first S.answer_from S.written
@@ -87,8 +72,8 @@ module _ (tree words out : List ℕ) (small : Bytes tree) (passed : questions tr
   finished : (b : Bool) (card : List ℕ) (a : Result ℕ Refusal) (out' : List ℕ) → a ≡ cond b (Ok (length card)) (Err SmallOutput) → out' ≡ cond b (card ++ drop (length card) out) out
       → (shown a ≡ cond b (record { number = 0; length = length card }) (record { number = 9; length = 0 })) × (out' ≡ S.written (shown a).number card out)
   unfolding S.written
-  finished true card a out' e q = (ap shown e, q ∙ sym (ap (λ (x : Result ℕ Refusal). S.written (shown x).number card out) e))
-  finished false card a out' e q = (ap shown e, q ∙ sym (ap (λ (x : Result ℕ Refusal). S.written (shown x).number card out) e))
+  finished true card a out' e q = search rules
+  finished b card a out' e q = search rules
 
   pub accepted : (R.lowered tree words).0.refusal ≡ None → (a : Result ℕ Refusal) (out' : List ℕ) → a ≡ answer_of (image_of tree (R.lowered tree words).1 (sections_of (R.lowered tree words).0)) out → out' ≡ laid (image_of tree (R.lowered tree words).1 (sections_of (R.lowered tree words).0)) out
       → Asked tree out out' (shown a)
@@ -150,6 +135,4 @@ built tree words out words' out' a small enough h w =
 -- question 1
 pub too_short : (tree words out : List ℕ) → length words < 16384 → Built tree words out words out (shown (Err SmallWorkspace))
 unfolding S.answer S.output_after S.workspace_after S.written
-too_short tree words out h =
-    let b = lt-leb 16384 (length words) h in
-    record { answered = rw b; output = rw b; workspace = rw b; agrees = λ z. absurd (omega arith) }
+too_short tree words out h = search rules

@@ -34,6 +34,7 @@ pub fn molang_build(tree: &[u8], workspace: &mut [u32], out: &mut [u8]) -> u64
     pack(a)
 }
 
+// No `From`: neither `Result` nor `u64` is of this crate. A `usize` has 64 bits, so `as` widens it.
 fn pack(a: Result<usize, Refusal>) -> u64
     ensures { result ≡ packed (shown a) }
 {
@@ -44,6 +45,7 @@ fn pack(a: Result<usize, Refusal>) -> u64
 }
 
 // Questions 2 to 9 in a workspace of 16,384 words, which is cleared afterwards.
+#[tactic(auto, using(crate::proofs::Outcome::all_zero))]
 fn inside(tree: &[u8], ws: &mut [u32], out: &mut [u8]) -> Result<usize, Refusal>
     requires { length ws.old ≡ WORDS }
     ensures { Asked tree.now out.old out.new (shown result) × (ws.new ≡ zeros) }
@@ -77,7 +79,8 @@ fn generate(tree: &[u8], ws: &mut [u32], out: &mut [u8]) -> Result<usize, Refusa
 }
 
 // What is to be written of a lowered tree: how much of each region, and the closing fields.
-fn sections(s: State) -> Sections
+#[tactic(auto, unfolding(representation::specs::Sections::sections_of, representation::specs::Sections::in_loop))]
+fn sections(s: State<Refusal>) -> Sections
     ensures { result ≡ sections_of s }
 {
     let d = s.depth;

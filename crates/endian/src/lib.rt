@@ -18,7 +18,7 @@ pub fn put_u8(out: &mut [u8], at: usize, n: u8)
 // The bytes from `at` on, each if it has a place. An index: what `iter_mut` leaves in a slice the library does not say.
 #[tactic(auto, using(crate::proofs::Runs::sets_more))]
 fn put_each<const N: usize>(out: &mut [u8], at: usize, bytes: [u8; N])
-    requires { (N ≤ 8) × (at < length out.old) }
+    requires { at < length out.old }
     ensures { out.new ≡ sets out.old at bytes.entry }
 {
     for i in 0..N {
@@ -29,7 +29,6 @@ fn put_each<const N: usize>(out: &mut [u8], at: usize, bytes: [u8; N])
 // The same. The compiler makes one store of bytes that all have a place.
 #[tactic(auto, using(crate::proofs::Runs::sets_whole, wire::proofs::Stores::sets_out))]
 fn put_bytes<const N: usize>(out: &mut [u8], at: usize, bytes: [u8; N])
-    requires { N ≤ 8 }
     ensures { out.new ≡ sets out.old at bytes.entry }
 {
     if at < out.len() {
@@ -41,7 +40,7 @@ fn put_bytes<const N: usize>(out: &mut [u8], at: usize, bytes: [u8; N])
     }
 }
 
-// The byte of `n` at a shift. Nothing is divided, which is a rule of the project: `to_be_bytes` is written as quotients.
+// The byte of `n` at a shift. Nothing is divided, which is a rule of the project: `to_be_bytes` is written as quotients. `as` cuts what fits.
 fn byte(n: u32, shift: u32) -> u8
     requires { shift < 32 }
     ensures { result ≡ n / 2 ^ shift % 256 }
@@ -54,7 +53,7 @@ fn byte(n: u32, shift: u32) -> u8
 pub fn put_u16(out: &mut [u8], at: usize, n: u16)
     ensures { out.new ≡ sets out.old at (be 2 n []) }
 {
-    let w = n as u32;
+    let w = u32::from(n);
     put_bytes(out, at, [byte(w, 8), byte(w, 0)]);
 }
 

@@ -11,7 +11,8 @@ use Rattle.payload.specs.declared.QueryRef.{QueryRef}
 use Rattle.payload.specs.declared.Payload.{Payload}
 use Rattle.payload.specs.declared.Payload.TheVariants.{Query}
 use Rattle.payload.specs.Payloads.{payload_ref_at}
-use Rattle.builder.specs.Steps.{Held, still, pushed}
+use Rattle.lowering.specs.Held.{Held}
+use Rattle.builder.specs.Steps.{still, pushed}
 use Rattle.builder.specs.Segments.{opened}
 use Rattle.lowering.specs.Pools.{Found, after, constant}
 use Rattle.lowering.specs.Parts.{Step, instr, put_post, call_begun, argument_closed}

@@ -1,7 +1,6 @@
 -- What a builder has done where it gives an index. Definitions only.
 use Rattle.std.specs.Prelude.{◌≡◌, ℕ, List, Option}
-use Rattle.builder.specs.declared.Builder.{Builder}
-use Rattle.builder.specs.Steps.{Held}
+use Rattle.lowering.specs.Held.{Builder, Held}
 use Rattle.builder.specs.Done.{held}
 use Rattle.lowering.specs.Pools.{Found}
 use Rattle.lowering.specs.declared.control.EachIndex.{EachIndex}

@@ -1,5 +1,6 @@
 -- What each rule without operands makes of the builder's state and the workspace's words, and what stands behind an operand. Definitions only.
-use Rattle.std.specs.Prelude.{Bool, true, false, cond, ◌&&◌, List, [], ◌∷◌, ℕ, zero, suc, eqb, Option, None, Some}
+use Rattle.std.specs.Prelude.{Bool, true, false, cond, List, [], ◌∷◌, ℕ, zero, suc, eqb, Option, None, Some}
+use Rattle.std.specs.Option.{option_map}
 use Rattle.answers.specs.declared.refusals.Refusal.{Refusal}
 use Rattle.answers.specs.declared.refusals.Refusal.TheVariants as Refusal
 use Rattle.numeric.specs.Post.{fold}
@@ -14,8 +15,8 @@ use Rattle.code.specs.Segments.{BREAK, CONTINUE}
 use Rattle.payload.specs.declared.NameRef.{NameRef}
 use Rattle.payload.specs.declared.Payload.{Payload}
 use Rattle.payload.specs.Payloads.{payload_ref_at}
-use Rattle.builder.specs.declared.State.{State}
-use Rattle.builder.specs.Steps.{Held, still, failed}
+use Rattle.lowering.specs.Held.{State, Held}
+use Rattle.builder.specs.Steps.{still, failed}
 use Rattle.lowering.specs.Pools as B
 use Rattle.lowering.specs.Pools.{Found, after, constant}
 use Rattle.lowering.specs.declared.assign.PathEnd.{PathEnd}
@@ -50,9 +51,17 @@ name_kind k = Name (record { 0 = k })
 abbrev pub temp_kind : ℕ → EachIndex
 temp_kind k = Temp (record { 0 = k })
 
--- a path with a link that is no member with a child
-abbrev pub no_path : PathEnd
-no_path = record { fine = false; root = 0; count = 0 }
+-- a hash by the instruction that reads it
+abbrev pub hashed : ℕ → ℕ → Step
+hashed op v = do
+  still not_float_only
+  k ← with_hash v
+  instr op 0 k 0
+
+-- the step with where a path ends, Failed where a link is no member with a child
+abbrev pub with_path : Option PathEnd → (PathEnd → Step) → Step
+with_path None f h = failed Refusal.Failed h
+with_path (Some e) f h = f e h
 
 module _ (t : List ℕ) where
   abbrev pub payload : ℕ → Payload
@@ -99,16 +108,10 @@ module _ (t : List ℕ) where
     load_var p q
 
   unfoldable pub string_literal : ℕ → Step
-  string_literal p = do
-    still not_float_only
-    k ← with_hash (string_of (payload p))
-    instr O.HASH 0 k 0
+  string_literal p = hashed O.HASH (string_of (payload p))
 
   unfoldable pub resource : ℕ → Step
-  resource p = do
-    still not_float_only
-    k ← with_hash (resource_of (payload p))
-    instr O.RESOURCE 0 k 0
+  resource p = hashed O.RESOURCE (resource_of (payload p))
 
   unfoldable pub generic : ℕ → Step
   generic p = constant (fold (post_bits t p) (const_of (payload p)))
@@ -128,17 +131,17 @@ module _ (t : List ℕ) where
   -- ---- assignments: the path of a member store ends at its root
 
   abbrev pub longer : PathEnd → PathEnd
-  longer e = record { fine = e.fine; root = e.root; count = after e.count }
+  longer e = record { root = e.root; count = after e.count }
 
   abbrev pub is_link : ℕ → Bool
   is_link p = eqb (rule p) Operator.MEMBER_ACCESSOR
 
-  unfoldable pub path_end : ℕ → ℕ → PathEnd
-  path_end zero p = no_path
+  unfoldable pub path_end : ℕ → ℕ → Option PathEnd
+  path_end zero p = None
   path_end (suc n) p =
       cond (is_link p)
-      (as_name Kind.MEMBER (payload p) no_path (λ m. cond (eqb (count_at t p) 0) no_path (longer (path_end n (first_at t p)))))
-      (record { fine = true; root = p; count = 0 })
+      (as_name Kind.MEMBER (payload p) None (λ m. cond (eqb (count_at t p) 0) None (option_map longer (path_end n (first_at t p)))))
+      (Some (record { root = p; count = 0 }))
 
   -- its hashes, from the root outwards
   unfoldable pub path_hashes : ℕ → ℕ → Step
@@ -161,9 +164,8 @@ module _ (t : List ℕ) where
 
   unfoldable pub store_member : ℕ → ℕ → ℕ → Step
   store_member n p q =
-      let e = path_end n p in
-      either (is_link p && e.fine)
-      (do
+      either (is_link p)
+      (with_path (path_end n p) λ e. do
         still not_float_only
         still (flagged Flag.USES_MEMBERS)
         root_var e.root n p e.count q)

@@ -1,3 +1,4 @@
+pub mod Held
 pub mod Search
 pub mod Regions
 pub mod Pools

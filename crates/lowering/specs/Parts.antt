@@ -9,10 +9,10 @@ use Rattle.workspace.specs.Words.{high, low}
 use Rattle.workspace.specs.Counts.{sum}
 use Rattle.lowering.specs.Regions.{appended_count, appended_words}
 use Rattle.payload.specs.declared.NameRef.{NameRef}
-use Rattle.builder.specs.declared.State.{State}
+use Rattle.lowering.specs.Held.{State, Held}
 use Rattle.lowering.specs.declared.control.EachIndex.{EachIndex}
 use Rattle.lowering.specs.declared.control.EachIndex.TheVariants.{Name, Temp}
-use Rattle.builder.specs.Steps.{Held, emitted, flushed, put, failed}
+use Rattle.builder.specs.Steps.{emitted, flushed, put, failed}
 use Rattle.lowering.specs.Pools as B
 use Rattle.lowering.specs.Pools.{Found, after}
 use Rattle.builder.specs.Segments.{targeted, breaks_resolved, closed}

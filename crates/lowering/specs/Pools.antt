@@ -9,9 +9,9 @@ use Rattle.program.specs.Kinds.{USES_TEMPS}
 use Rattle.lowering.specs.Search.{word_hit, pair_hit, name_hit, member_hit}
 use Rattle.lowering.specs.Regions.{interned_index, interned_count, interned_words}
 use Rattle.payload.specs.declared.NameRef.{NameRef}
-use Rattle.builder.specs.declared.State.{State}
+use Rattle.lowering.specs.Held.{State, Held}
 use Rattle.builder.specs.Fields.{set_consts, set_posts, set_hashes, set_names, set_temps, set_members, set_flags}
-use Rattle.builder.specs.Steps.{Held, put_const}
+use Rattle.builder.specs.Steps.{put_const}
 
 -- a state with an index
 pub record Entry : Type 0 where

@@ -12,8 +12,8 @@ use Rattle.program.specs.Subs as Sub
 use Rattle.program.specs.Image.{bit}
 use Rattle.payload.specs.declared.NameRef.{NameRef}
 use Rattle.program.specs.declared.Depths.{Depths}
-use Rattle.builder.specs.declared.State.{State}
-use Rattle.builder.specs.Steps.{Held, still, failed, pushed}
+use Rattle.lowering.specs.Held.{State, Held}
+use Rattle.builder.specs.Steps.{still, failed, pushed}
 use Rattle.lowering.specs.Pools.{Found, after, constant}
 use Rattle.builder.specs.Segments.{opened}
 use Rattle.lowering.specs.Payloads.{const_of}
@@ -22,7 +22,7 @@ use Rattle.lowering.specs.Parts.{Step, ◌>>◌, ◌>>=◌, either, unless_refus
 use Rattle.lowering.specs.Parts.{post_bits, with_post, put_post, post_instr, emit_jump, with_jump, place_target, resolve_breaks, loop_closed, each_closed}
 use Rattle.lowering.specs.Parts.{with_call, argument_closed}
 use Rattle.lowering.specs.Parts.{each_next, where_found}
-unfoldable pub use Rattle.lowering.specs.Leaves.{among, no_variable, variable_of, name_kind, temp_kind, no_path, payload, rule, if_name, if_hash}
+unfoldable pub use Rattle.lowering.specs.Leaves.{among, no_variable, variable_of, name_kind, temp_kind, hashed, with_path, payload, rule, if_name, if_hash}
 unfoldable pub use Rattle.lowering.specs.Leaves.{if_math, if_query, load_context, load_temp, load_var, load, string_literal, resource, generic}
 unfoldable pub use Rattle.lowering.specs.Leaves.{member_put, array_put, longer, is_link, path_end, path_hashes, store_as, root_temp, root_var}
 unfoldable pub use Rattle.lowering.specs.Leaves.{store_member, store_temp, store_var, store, target_refusal, compare_const, equal_const}

@@ -3,7 +3,7 @@ use Rattle.std.specs.Prelude.{Bool, false, cond, ℕ}
 use Rattle.std.specs.Int.Bits.{bit_and, bit_or}
 use Rattle.program.specs.Kinds.{USES_QUERIES, NOT_FLOAT}
 use Rattle.depth.specs.Counters as D
-use Rattle.builder.specs.declared.State.{State}
+use Rattle.lowering.specs.Held.{State}
 use Rattle.builder.specs.Fields.{set_depth, set_flags}
 
 abbrev pub set_stores : ℕ → State → State

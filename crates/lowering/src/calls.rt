@@ -6,8 +6,7 @@ ghost use Rattle.lowering.specs.Done.{Gave};
 ghost use Rattle.lowering.specs.Parts.{call_begun, argument_closed};
 
 use crate::parts::instr;
-use crate::regions;
-use builder::Builder;
+use crate::{Builder, regions};
 use payload::QueryRef;
 use program::opcodes::Opcode;
 use program::{CallIdx, PostIdx};

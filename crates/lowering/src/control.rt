@@ -1,18 +1,18 @@
 // Control: breaks, the ends of loops, a ForEach variable.
 ghost use Rattle.std.specs.Prelude.{◌≡◌};
+ghost use Rattle.tree.specs.Nodes.{bytes};
 ghost use Rattle.builder.specs.Done.{Did};
 ghost use Rattle.lowering.specs.Done.{Gave, GaveVariable};
 ghost use Rattle.lowering.specs.Parts.{jump_out, loop_closed, each_closed, each_next};
 ghost use Rattle.lowering.specs.Rules as R;
 
-use crate::image::Tree;
-use crate::interning;
 use crate::parts::{emit_jump, instr, place_target};
+use crate::{Builder, interning};
 use answers::refusals::Refusal;
-use builder::Builder;
-use payload::Payload;
+use payload::{Payload, payload_of};
 use program::opcodes::Opcode;
 use program::{NameIdx, PostIdx, TempIdx};
+use tree::Node;
 
 // A Break or Continue that waits for its loop; Halt where none is open.
 #[tactic(auto, unfolding(crate::specs::Parts::jump_out))]
@@ -71,10 +71,10 @@ pub(crate) fn each_next(b: &mut Builder<'_>, index: EachIndex) -> u16
 
 // A ForEach variable, or none where it is refused.
 #[tactic(auto, unfolding(crate::specs::Leaves::variable, crate::specs::Leaves::variable_temp, crate::specs::Payloads::as_name, crate::specs::Payloads::cases))]
-pub(crate) fn variable(t: &Tree<'_>, b: &mut Builder<'_>, at: usize) -> Option<EachIndex>
-    ensures { GaveVariable b.old b.new result (R.variable t.now.image.now at) }
+pub(crate) fn variable(b: &mut Builder<'_>, node: Node<'_>) -> Option<EachIndex>
+    ensures { GaveVariable b.old b.new result (R.variable (bytes node.entry) node.entry.at) }
 {
-    match payload::payload_at(t.image, at) {
+    match payload_of(node) {
         Payload::Entity(n) => Some(EachIndex::Name(interning::name(b, n))),
         Payload::Temp(n) => Some(EachIndex::Temp(interning::temp(b, n))),
         _ => {

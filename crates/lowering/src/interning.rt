@@ -6,8 +6,7 @@ ghost use Rattle.builder.specs.Done.{Did};
 ghost use Rattle.lowering.specs.Done.{Gave};
 ghost use Rattle.lowering.specs.Pools.{konst, post, hash, name, slot, temp, member, text_place, constant};
 
-use crate::regions;
-use builder::Builder;
+use crate::{Builder, regions};
 use numeric::{PostBits, PostOp};
 use payload::NameRef;
 use program::{ConstIdx, Flags, HashIdx, MemberIdx, NameIdx, PostIdx, TempIdx};
@@ -32,7 +31,7 @@ pub(crate) fn hash(b: &mut Builder<'_>, h: u64) -> HashIdx
     HashIdx(u32::from(i.index))
 }
 
-// The place of a text's length byte: the one before the text.
+// The place of a text's length byte: the one before the text. `as` cuts what has been made to fit.
 fn text_place(at: usize) -> u32
     ensures { result ≡ text_place at }
 {

@@ -1,11 +1,12 @@
 // The lowering: an expression picks its operator's rule, and that rule reads its operands as expressions; the remaining levels fall.
+// A rule takes the builder, which it changes, and the node, which it reads: no one value, since each child has the same builder.
 #![tactic(auto)]
 
 mod assign;
 mod calls;
 mod comparisons;
 mod control;
-mod image;
+mod inside;
 mod interning;
 mod parts;
 mod pools;
@@ -15,43 +16,52 @@ mod values;
 
 ghost use Rattle.std.specs.Prelude.{◌≡◌, List, false, ◌-◌, ◌≤◌, eqb};
 ghost use Rattle.wire.specs.Bytes.{be8};
-ghost use Rattle.ast.specs.Node.{first_at, count_at};
+ghost use Rattle.ast.specs.Node.{first_at, next_at};
 ghost use Rattle.program.specs.Image.{bit};
 ghost use Rattle.program.specs.Opcodes.{number_of};
 ghost use Rattle.program.specs.Subs.{comparison_of, equality_of, divisor_of};
-ghost use Rattle.builder.specs.Steps.{Held};
+ghost use Rattle.tree.specs.Nodes.{bytes};
+ghost use Rattle.lowering.specs.Held.{Held};
 ghost use Rattle.builder.specs.Done.{Did};
 ghost use Rattle.lowering.specs.Parts.{each_next};
 ghost use Rattle.lowering.specs.Rules as R;
 
 use answers::refusals::Refusal;
-use ast::{RuleTable, header, operators};
-use builder::{Builder, State};
+use ast::{header, operators};
+use builder::State;
 use code::segment;
 use control::EachIndex;
 use depth::Depth;
-use image::Tree;
+use inside::Inside;
 use parts::{emit_jump, instr, place_target, post, post_instr, put_post};
-use payload::{NameRef, Payload};
+use payload::{NameRef, Payload, payload_of};
 use program::opcodes::Opcode;
 use program::subs::{Comparison, Divisor, Equality};
 use program::{Depths, Flags, PostIdx};
 use steps::{flag, not_float_only, pop};
+use tree::Node;
+
+// A builder whose refusals are those of the nine questions.
+pub(crate) type Builder<'a> = builder::Builder<'a, Refusal>;
 
 // The tree of an image as the main code, its End, and all that it needs in the workspace.
 #[tactic(auto, unfolding(crate::specs::Rules::lowered))]
-pub fn lower(tree: &[u8], ws: &mut [u32]) -> State
+pub fn lower(tree: &[u8], ws: &mut [u32]) -> State<Refusal>
     ensures { ◌≡◌ {A = Held} (result, ws.new) (R.lowered tree.now ws.old) }
 {
-    let t = Tree {
-        image: tree,
-        rules: RuleTable::new(),
-    };
     let mut b = Builder {
         state: start(),
         words: ws,
     };
-    expr(&t, &mut b, header::ROOT, false, header::LEVELS);
+    let root = Node {
+        image: &tree,
+        at: header::ROOT,
+    };
+    let inside = Inside {
+        looping: false,
+        levels: header::LEVELS,
+    };
+    expr(&mut b, root, inside);
     instr(&mut b, Opcode::End, 0, 0, PostIdx::PLAIN);
     b.resolve_breaks(0, 0, 0);
     b.state
@@ -68,7 +78,7 @@ fn nothing_open() -> Depths
 }
 
 // Nothing is lowered yet.
-fn start() -> State
+fn start() -> State<Refusal>
     ensures { result ≡ R.start }
 {
     State {
@@ -96,10 +106,11 @@ fn start() -> State
     }
 }
 
-// A rule without operands, or the refusal of any other.
+// A rule without operands, or the refusal of any other. A `match` on the rule's number here and in `expr`, which is a rule of the project: `expr` calls the
+// rules, and they call `expr`.
 #[tactic(auto, unfolding(crate::specs::Leaves::leaf, crate::specs::Leaves::among))]
-fn leaf(t: &Tree<'_>, b: &mut Builder<'_>, at: usize, looping: bool, rule: u8)
-    ensures { Did b.old b.new (R.leaf t.now.image.now at looping rule) }
+fn leaf(b: &mut Builder<'_>, node: Node<'_>, looping: bool, rule: u8)
+    ensures { Did b.old b.new (R.leaf (bytes node.entry) node.entry.at looping rule) }
 {
     match rule {
         operators::ARRAY_VARIABLE => b.failed(Refusal::UsesArrays),
@@ -107,213 +118,216 @@ fn leaf(t: &Tree<'_>, b: &mut Builder<'_>, at: usize, looping: bool, rule: u8)
         operators::GEOMETRY_VARIABLE => b.failed(Refusal::UsesResources),
         operators::MATERIAL_VARIABLE => b.failed(Refusal::UsesResources),
         operators::TEXTURE_VARIABLE => b.failed(Refusal::UsesResources),
-        operators::FLOAT => values::float(t, b, at),
-        operators::STRING_LITERAL => values::string_literal(t, b, at),
-        operators::GEOMETRY => values::resource(t, b, at),
-        operators::MATERIAL => values::resource(t, b, at),
-        operators::TEXTURE => values::resource(t, b, at),
-        operators::THIS => put_post(t, b, at, Opcode::This, 0, 0),
-        operators::ENTITY_VARIABLE => values::load(t, b, at),
-        operators::TEMP_VARIABLE => values::load(t, b, at),
-        operators::CONTEXT_VARIABLE => values::load(t, b, at),
+        operators::FLOAT => values::float(b, node),
+        operators::STRING_LITERAL => values::string_literal(b, node),
+        operators::GEOMETRY => values::resource(b, node),
+        operators::MATERIAL => values::resource(b, node),
+        operators::TEXTURE => values::resource(b, node),
+        operators::THIS => put_post(b, node, Opcode::This, 0, 0),
+        operators::ENTITY_VARIABLE => values::load(b, node),
+        operators::TEMP_VARIABLE => values::load(b, node),
+        operators::CONTEXT_VARIABLE => values::load(b, node),
         operators::BREAK => control::jump_out(b, segment::BREAK, looping),
         operators::CONTINUE => control::jump_out(b, segment::CONTINUE, looping),
-        operators::RETURN => values::generic_constant(t, b, at),
-        operators::PI => values::generic_constant(t, b, at),
-        operators::LEFT_BRACE => values::generic_constant(t, b, at),
-        operators::RIGHT_BRACE => values::generic_constant(t, b, at),
-        operators::RIGHT_BRACKET => values::generic_constant(t, b, at),
-        operators::RIGHT_PARENTHESIS => values::generic_constant(t, b, at),
-        operators::CONDITIONAL_ELSE => values::generic_constant(t, b, at),
-        operators::COMMA => values::generic_constant(t, b, at),
+        operators::RETURN => values::generic_constant(b, node),
+        operators::PI => values::generic_constant(b, node),
+        operators::LEFT_BRACE => values::generic_constant(b, node),
+        operators::RIGHT_BRACE => values::generic_constant(b, node),
+        operators::RIGHT_BRACKET => values::generic_constant(b, node),
+        operators::RIGHT_PARENTHESIS => values::generic_constant(b, node),
+        operators::CONDITIONAL_ELSE => values::generic_constant(b, node),
+        operators::COMMA => values::generic_constant(b, node),
         _ => b.failed(Refusal::Failed),
     }
 }
 
-// The node at `at` as an expression.
+// The node as an expression.
 #[cycle(expression)]
 #[tactic(auto, unfolding(crate::specs::Rules::expr, crate::specs::Rules::branch, crate::specs::Leaves::among))]
-fn expr(t: &Tree<'_>, b: &mut Builder<'_>, at: usize, looping: bool, levels: u16)
-    ensures { Did b.old b.new (R.expr t.now.image.now levels at looping) }
+fn expr(b: &mut Builder<'_>, node: Node<'_>, inside: Inside)
+    ensures { Did b.old b.new (R.expr (bytes node.entry) inside.levels node.entry.at inside.looping) }
 {
-    if levels == 0 {
+    if inside.levels == 0 {
         return b.failed(Refusal::Failed);
     }
-    let rule = t.rule_at(at);
-    let n = levels - 1;
+    let rule = node.rule();
+    let n = inside.deeper();
     match rule {
-        operators::ARRAY => element(t, b, at, looping, n),
-        operators::MEMBER_ACCESSOR => member(t, b, at, looping, n),
-        operators::QUERY_FUNCTION => query(t, b, at, n),
-        operators::LESS_THAN => compare(t, b, at, Comparison::Lt, looping, n),
-        operators::LESS_EQUAL => compare(t, b, at, Comparison::Le, looping, n),
-        operators::GREATER_EQUAL => compare(t, b, at, Comparison::Ge, looping, n),
-        operators::GREATER_THAN => compare(t, b, at, Comparison::Gt, looping, n),
-        operators::LOGICAL_EQUAL => equal(t, b, at, Equality::Eq, looping, n),
-        operators::LOGICAL_NOT_EQUAL => equal(t, b, at, Equality::Ne, looping, n),
-        operators::LOGICAL_AND => logic(t, b, at, Opcode::AndStep, Opcode::AndLast, looping, n),
-        operators::LOGICAL_OR => logic(t, b, at, Opcode::OrStep, Opcode::OrLast, looping, n),
-        operators::NULL_COALESCING => coalesce(t, b, at, looping, n),
-        operators::CONDITIONAL => conditional(t, b, at, looping, n),
-        operators::SEMICOLON => statements(t, b, at, looping, n),
-        operators::LOOP => repeat(t, b, at, looping, n),
-        operators::FOR_EACH => for_each(t, b, at, looping, n),
-        operators::ASSIGNMENT => assignment(t, b, at, looping, n),
-        operators::POINTER => pointer(t, b, at, looping, n),
-        operators::LEFT_BRACKET => par(t, b, at, looping, n),
-        operators::LEFT_PARENTHESIS => par(t, b, at, looping, n),
-        operators::NEGATE => unary(t, b, at, Opcode::Negate, looping, n),
-        operators::LOGICAL_NOT => unary(t, b, at, Opcode::Not, looping, n),
-        operators::ADD => add(t, b, at, looping, n),
-        operators::MUL => mul(t, b, at, looping, n),
-        operators::DIV => div(t, b, at, looping, n),
-        operators::HOST_MATH => host_math(t, b, at, 0, looping, n),
-        operators::HOST_MATH_VOLATILE => host_math(t, b, at, Flags::RANDOM, looping, n),
-        _ => leaf(t, b, at, looping, rule),
+        operators::ARRAY => element(b, node, n),
+        operators::MEMBER_ACCESSOR => member(b, node, n),
+        operators::QUERY_FUNCTION => query(b, node, n.levels),
+        operators::LESS_THAN => compare(b, node, Comparison::Lt, n),
+        operators::LESS_EQUAL => compare(b, node, Comparison::Le, n),
+        operators::GREATER_EQUAL => compare(b, node, Comparison::Ge, n),
+        operators::GREATER_THAN => compare(b, node, Comparison::Gt, n),
+        operators::LOGICAL_EQUAL => equal(b, node, Equality::Eq, n),
+        operators::LOGICAL_NOT_EQUAL => equal(b, node, Equality::Ne, n),
+        operators::LOGICAL_AND => logic(b, node, Opcode::AndStep, Opcode::AndLast, n),
+        operators::LOGICAL_OR => logic(b, node, Opcode::OrStep, Opcode::OrLast, n),
+        operators::NULL_COALESCING => coalesce(b, node, n),
+        operators::CONDITIONAL => conditional(b, node, n),
+        operators::SEMICOLON => statements(b, node, n),
+        operators::LOOP => repeat(b, node, n),
+        operators::FOR_EACH => for_each(b, node, n),
+        operators::ASSIGNMENT => assignment(b, node, n),
+        operators::POINTER => pointer(b, node, n),
+        operators::LEFT_BRACKET => par(b, node, n),
+        operators::LEFT_PARENTHESIS => par(b, node, n),
+        operators::NEGATE => unary(b, node, Opcode::Negate, n),
+        operators::LOGICAL_NOT => unary(b, node, Opcode::Not, n),
+        operators::ADD => add(b, node, n),
+        operators::MUL => mul(b, node, n),
+        operators::DIV => div(b, node, n),
+        operators::HOST_MATH => host_math(b, node, 0, n),
+        operators::HOST_MATH_VOLATILE => host_math(b, node, Flags::RANDOM, n),
+        _ => leaf(b, node, inside.looping, rule),
     }
 }
 
-// ---- values
+// ---- values; a payload of another kind is told by `let .. else` here and in host_math and query, a rule of the project
 
 // array_element in the Rust: an element of an array variable.
 #[cycle(expression)]
 #[tactic(auto, unfolding(crate::specs::Rules::array_element, crate::specs::Payloads::as_name, crate::specs::Payloads::cases))]
-fn element(t: &Tree<'_>, b: &mut Builder<'_>, at: usize, looping: bool, levels: u16)
-    ensures { Did b.old b.new (R.under t.now.image.now levels (R.array_element t.now.image.now) at looping) }
+fn element(b: &mut Builder<'_>, node: Node<'_>, inside: Inside)
+    ensures { Did b.old b.new (R.under (bytes node.entry) inside.levels (R.array_element (bytes node.entry)) node.entry.at inside.looping) }
 {
-    if wire::get_u8(t.image, 0, header::ARRAYS) != 1 {
+    if wire::get_u8(*node.image, 0, header::ARRAYS) != 1 {
         return b.failed(Refusal::UsesArrays);
     }
-    if tree::count_at(t.image, at) != 1 {
+    if node.count() != 1 {
         return b.failed(Refusal::Failed);
     }
-    let p = payload::payload_at(t.image, at);
+    let p = payload_of(node);
     let Payload::ArrayVariable(n) = p else {
         return b.failed(Refusal::Failed);
     };
     not_float_only(b);
-    expr(t, b, tree::first_at(t.image, at), looping, levels);
-    values::array_put(t, b, at, n);
+    expr(b, node.first(), inside);
+    values::array_put(b, node, n);
 }
 
-// The node at `at` as the base of a member path whose last member is `last`.
+// The node as the base of a member path whose last member is `last`.
 #[cycle(expression)]
 #[tactic(auto, unfolding(crate::specs::Rules::chain, crate::specs::Rules::chained))]
-fn chain(t: &Tree<'_>, b: &mut Builder<'_>, at: usize, last: NameRef, looping: bool, levels: u16)
-    ensures { Did b.old b.new (R.chain t.now.image.now levels at last looping) }
+fn chain(b: &mut Builder<'_>, node: Node<'_>, last: NameRef, inside: Inside)
+    ensures { Did b.old b.new (R.chain (bytes node.entry) inside.levels node.entry.at last inside.looping) }
 {
-    if levels == 0 {
+    if inside.levels == 0 {
         return b.failed(Refusal::Failed);
     }
-    if t.rule_at(at) != operators::MEMBER_ACCESSOR {
-        return expr(t, b, at, looping, levels);
+    if node.rule() != operators::MEMBER_ACCESSOR {
+        return expr(b, node, inside);
     }
-    if tree::count_at(t.image, at) == 0 {
+    if node.count() == 0 {
         return b.failed(Refusal::Failed);
     }
-    chain(t, b, tree::first_at(t.image, at), last, looping, levels - 1);
-    values::member_put(t, b, at, last);
+    chain(b, node.first(), last, inside.deeper());
+    values::member_put(b, node, last);
 }
 
 // member_read in the Rust: a member of the value of a base.
 #[cycle(expression)]
 #[tactic(auto, unfolding(crate::specs::Rules::member_read, crate::specs::Rules::chained, crate::specs::Payloads::as_name, crate::specs::Payloads::cases))]
-fn member(t: &Tree<'_>, b: &mut Builder<'_>, at: usize, looping: bool, levels: u16)
-    ensures { Did b.old b.new (R.under t.now.image.now levels (R.member_read t.now.image.now) at looping) }
+fn member(b: &mut Builder<'_>, node: Node<'_>, inside: Inside)
+    ensures { Did b.old b.new (R.under (bytes node.entry) inside.levels (R.member_read (bytes node.entry)) node.entry.at inside.looping) }
 {
     not_float_only(b);
     flag(b, Flags::USES_MEMBERS);
-    let p = payload::payload_at(t.image, at);
+    let p = payload_of(node);
     let Payload::Member(last) = p else {
         return b.failed(Refusal::Failed);
     };
-    if tree::count_at(t.image, at) == 0 {
+    if node.count() == 0 {
         return b.failed(Refusal::Failed);
     }
-    chain(t, b, tree::first_at(t.image, at), last, looping, levels);
-    values::member_put(t, b, at, last);
+    chain(b, node.first(), last, inside);
+    values::member_put(b, node, last);
 }
 
 #[cycle(expression)]
-#[tactic(auto, unfolding(crate::specs::Rules::assignment))]
-fn assignment(t: &Tree<'_>, b: &mut Builder<'_>, at: usize, looping: bool, levels: u16)
-    ensures { Did b.old b.new (R.under t.now.image.now levels (R.assignment t.now.image.now) levels at looping) }
+#[tactic(auto, unfolding(crate::specs::Rules::assignment, crate::specs::Leaves::store))]
+fn assignment(b: &mut Builder<'_>, node: Node<'_>, inside: Inside)
+    ensures { Did b.old b.new (R.under (bytes node.entry) inside.levels (R.assignment (bytes node.entry)) inside.levels node.entry.at inside.looping) }
 {
-    let count = tree::count_at(t.image, at);
+    let count = node.count();
     if count == 0 {
         return b.failed(Refusal::Failed);
     }
-    let target = tree::first_at(t.image, at);
-    if let Some(why) = assign::target_refusal(t, target) {
+    let target = node.first();
+    if let Some(why) = assign::target_refusal(target) {
         return b.failed(why);
     }
     flag(b, Flags::HAS_ASSIGNMENT);
-    rhs(t, b, at, target, looping, levels);
-    assign::store(t, b, target, at, levels);
+    rhs(b, node, inside);
+    let q = post(b, node);
+    assign::store(b, target, inside.levels, q);
 }
 
 // The second child, or the node's constant.
 #[cycle(expression)]
 #[tactic(auto, unfolding(crate::specs::Rules::value))]
-fn rhs(t: &Tree<'_>, b: &mut Builder<'_>, at: usize, first: usize, looping: bool, levels: u16)
-    ensures { Did b.old b.new (R.under t.now.image.now levels (R.value t.now.image.now) at first looping) }
+fn rhs(b: &mut Builder<'_>, node: Node<'_>, inside: Inside)
+    ensures { Did b.old b.new
+        (R.under (bytes node.entry) inside.levels (R.value (bytes node.entry)) node.entry.at (first_at (bytes node.entry) node.entry.at) inside.looping) }
 {
-    if tree::count_at(t.image, at) == 1 {
-        let p = payload::payload_at(t.image, at);
+    if node.count() == 1 {
+        let p = payload_of(node);
         return interning::constant(b, values::constant_bits(p));
     }
-    expr(t, b, tree::next_at(t.image, first), looping, levels);
+    expr(b, node.first().next(), inside);
 }
 
 // ---- logic
+// `compare` and `equal` differ in their instructions, in the type of what is compared and in what a constant becomes: one function over these is longer.
 
 // Two operands with a Push between them, the one at `a` first.
 #[cycle(expression)]
 #[tactic(auto, unfolding(crate::specs::Rules::binary))]
-fn binary(t: &Tree<'_>, b: &mut Builder<'_>, a: usize, looping: bool, levels: u16)
-    ensures { Did b.old b.new (R.under t.now.image.now levels (R.binary t.now.image.now) a looping) }
+fn binary(b: &mut Builder<'_>, a: Node<'_>, inside: Inside)
+    ensures { Did b.old b.new (R.under (bytes a.entry) inside.levels (R.binary (bytes a.entry)) a.entry.at inside.looping) }
 {
-    expr(t, b, a, looping, levels);
+    expr(b, a, inside);
     b.push();
-    expr(t, b, tree::next_at(t.image, a), looping, levels);
+    expr(b, a.next(), inside);
 }
 
 #[cycle(expression)]
 #[tactic(auto, unfolding(crate::specs::Rules::compare))]
-fn compare(t: &Tree<'_>, b: &mut Builder<'_>, at: usize, o: Comparison, looping: bool, levels: u16)
-    ensures { Did b.old b.new (R.under t.now.image.now levels (R.compare t.now.image.now) (comparison_of o) at looping) }
+fn compare(b: &mut Builder<'_>, node: Node<'_>, o: Comparison, inside: Inside)
+    ensures { Did b.old b.new (R.under (bytes node.entry) inside.levels (R.compare (bytes node.entry)) (comparison_of o) node.entry.at inside.looping) }
 {
-    let count = tree::count_at(t.image, at);
+    let count = node.count();
     if count == 0 {
         return b.failed(Refusal::Failed);
     }
-    let q = post(t, b, at);
-    let a = tree::first_at(t.image, at);
+    let q = post(b, node);
+    let a = node.first();
     if count == 1 {
-        expr(t, b, a, looping, levels);
-        return comparisons::compare_const(t, b, at, o, q);
+        expr(b, a, inside);
+        return comparisons::compare_const(b, node, o, q);
     }
-    binary(t, b, a, looping, levels);
+    binary(b, a, inside);
     instr(b, Opcode::Cmp, o.number(), 0, q);
     pop(b, 1);
 }
 
 #[cycle(expression)]
 #[tactic(auto, unfolding(crate::specs::Rules::equal))]
-fn equal(t: &Tree<'_>, b: &mut Builder<'_>, at: usize, o: Equality, looping: bool, levels: u16)
-    ensures { Did b.old b.new (R.under t.now.image.now levels (R.equal t.now.image.now) (equality_of o) at looping) }
+fn equal(b: &mut Builder<'_>, node: Node<'_>, o: Equality, inside: Inside)
+    ensures { Did b.old b.new (R.under (bytes node.entry) inside.levels (R.equal (bytes node.entry)) (equality_of o) node.entry.at inside.looping) }
 {
-    let count = tree::count_at(t.image, at);
+    let count = node.count();
     if count == 0 {
         return b.failed(Refusal::Failed);
     }
-    let q = post(t, b, at);
-    let a = tree::first_at(t.image, at);
+    let q = post(b, node);
+    let a = node.first();
     if count == 1 {
-        expr(t, b, a, looping, levels);
-        return comparisons::equal_const(t, b, at, o, q);
+        expr(b, a, inside);
+        return comparisons::equal_const(b, node, o, q);
     }
-    binary(t, b, a, looping, levels);
+    binary(b, a, inside);
     instr(b, Opcode::Eq, o.number(), 0, q);
     pop(b, 1);
 }
@@ -321,68 +335,40 @@ fn equal(t: &Tree<'_>, b: &mut Builder<'_>, at: usize, o: Equality, looping: boo
 // `&&` and `||`; every operand but the last can lead behind the last.
 #[cycle(expression)]
 #[tactic(auto, unfolding(crate::specs::Rules::logic))]
-fn logic(
-    t: &Tree<'_>,
-    b: &mut Builder<'_>,
-    at: usize,
-    step: Opcode,
-    last: Opcode,
-    looping: bool,
-    levels: u16,
-)
-    ensures { Did b.old b.new (R.under t.now.image.now levels (R.logic t.now.image.now) (number_of step) (number_of last) at looping) }
+fn logic(b: &mut Builder<'_>, node: Node<'_>, step: Opcode, last: Opcode, inside: Inside)
+    ensures { Did b.old b.new
+        (R.under (bytes node.entry) inside.levels (R.logic (bytes node.entry)) (number_of step) (number_of last) node.entry.at inside.looping) }
 {
-    let count = tree::count_at(t.image, at);
+    let count = node.count();
     if count == 0 {
         return b.failed(Refusal::Failed);
     }
-    let q = post(t, b, at);
-    ops(
-        t,
-        b,
-        tree::first_at(t.image, at),
-        step,
-        last,
-        q,
-        count - 1,
-        looping,
-        levels,
-    );
+    let q = post(b, node);
+    ops(b, node.first(), step, last, q, count - 1, inside);
 }
 
 // `m` steps and the last operand, from the operand at `a` on; every step leads behind the last.
 #[cycle(expression)]
 #[tactic(auto, unfolding(crate::specs::Rules::operands))]
 fn ops(
-    t: &Tree<'_>,
     b: &mut Builder<'_>,
-    a: usize,
+    a: Node<'_>,
     step: Opcode,
     last: Opcode,
     q: PostIdx,
     m: u16,
-    looping: bool,
-    levels: u16,
+    inside: Inside,
 )
-    ensures { Did b.old b.new (R.under t.now.image.now levels (R.operands t.now.image.now) (number_of step) (number_of last) q.0 m a looping) }
+    ensures { Did b.old b.new
+        (R.under (bytes a.entry) inside.levels (R.operands (bytes a.entry)) (number_of step) (number_of last) q.0 m a.entry.at inside.looping) }
 {
-    expr(t, b, a, looping, levels);
+    expr(b, a, inside);
     let alone = m == 0;
     if alone {
         return instr(b, last, 0, 0, q);
     }
     let e = emit_jump(b, step, 0, q.0);
-    ops(
-        t,
-        b,
-        tree::next_at(t.image, a),
-        step,
-        last,
-        q,
-        m - 1,
-        looping,
-        levels,
-    );
+    ops(b, a.next(), step, last, q, m - 1, inside);
     place_target(b, e);
 }
 
@@ -391,81 +377,75 @@ fn ops(
 // Brackets: the first child.
 #[cycle(expression)]
 #[tactic(auto, unfolding(crate::specs::Rules::bracket))]
-fn par(t: &Tree<'_>, b: &mut Builder<'_>, at: usize, looping: bool, levels: u16)
-    ensures { Did b.old b.new (R.under t.now.image.now levels (R.bracket t.now.image.now) at looping) }
+fn par(b: &mut Builder<'_>, node: Node<'_>, inside: Inside)
+    ensures { Did b.old b.new (R.under (bytes node.entry) inside.levels (R.bracket (bytes node.entry)) node.entry.at inside.looping) }
 {
-    if tree::count_at(t.image, at) == 0 {
+    if node.count() == 0 {
         return b.failed(Refusal::Failed);
     }
-    expr(t, b, tree::first_at(t.image, at), looping, levels);
+    expr(b, node.first(), inside);
 }
 
 #[cycle(expression)]
 #[tactic(auto, unfolding(crate::specs::Rules::unary))]
-fn unary(t: &Tree<'_>, b: &mut Builder<'_>, at: usize, op: Opcode, looping: bool, levels: u16)
-    ensures { Did b.old b.new (R.under t.now.image.now levels (R.unary t.now.image.now) (number_of op) at looping) }
+fn unary(b: &mut Builder<'_>, node: Node<'_>, op: Opcode, inside: Inside)
+    ensures { Did b.old b.new (R.under (bytes node.entry) inside.levels (R.unary (bytes node.entry)) (number_of op) node.entry.at inside.looping) }
 {
-    if tree::count_at(t.image, at) == 0 {
+    if node.count() == 0 {
         return b.failed(Refusal::Failed);
     }
-    expr(t, b, tree::first_at(t.image, at), looping, levels);
-    put_post(t, b, at, op, 0, 0);
+    expr(b, node.first(), inside);
+    put_post(b, node, op, 0, 0);
 }
 
 // The n-ary +: the first term pushed, every further one added to it, the last with the post.
 #[cycle(expression)]
 #[tactic(auto, unfolding(crate::specs::Rules::add))]
-fn add(t: &Tree<'_>, b: &mut Builder<'_>, at: usize, looping: bool, levels: u16)
-    ensures { Did b.old b.new (R.under t.now.image.now levels (R.add t.now.image.now) at looping) }
+fn add(b: &mut Builder<'_>, node: Node<'_>, inside: Inside)
+    ensures { Did b.old b.new (R.under (bytes node.entry) inside.levels (R.add (bytes node.entry)) node.entry.at inside.looping) }
 {
-    let count = tree::count_at(t.image, at);
+    let count = node.count();
     if count == 0 {
         return b.failed(Refusal::Failed);
     }
-    let first = tree::first_at(t.image, at);
-    expr(t, b, first, looping, levels);
+    let first = node.first();
+    expr(b, first, inside);
     if count == 1 {
-        return post_instr(t, b, at);
+        return post_instr(b, node);
     }
     b.push();
-    terms(
-        t,
-        b,
-        at,
-        tree::next_at(t.image, first),
-        count - 2,
-        looping,
-        levels,
-    );
+    terms(b, node, count - 2, inside);
     pop(b, 1);
 }
 
-// `m` terms and the last, from the term at `a` on.
+// `m` terms and the last, from the second on.
 #[cycle(expression)]
 #[tactic(auto, unfolding(crate::specs::Rules::terms))]
-fn terms(t: &Tree<'_>, b: &mut Builder<'_>, at: usize, a: usize, m: u16, looping: bool, levels: u16)
-    ensures { Did b.old b.new (R.under t.now.image.now levels (R.terms t.now.image.now) at m a looping) }
+fn terms(b: &mut Builder<'_>, node: Node<'_>, m: u16, inside: Inside)
+    ensures { Did b.old b.new
+        (R.under (bytes node.entry) inside.levels (R.terms (bytes node.entry)) node.entry.at m
+        (next_at (bytes node.entry) (first_at (bytes node.entry) node.entry.at)) inside.looping) }
 {
-    let mut term = a;
+    let mut term = node.first().next();
     for _ in 0..m {
-        expr(t, b, term, looping, levels);
+        expr(b, term, inside);
         instr(b, Opcode::AddAcc, 0, 0, PostIdx::PLAIN);
-        term = tree::next_at(t.image, term);
+        term = term.next();
     }
-    expr(t, b, term, looping, levels);
-    put_post(t, b, at, Opcode::AddLast, 0, 0);
+    expr(b, term, inside);
+    put_post(b, node, Opcode::AddLast, 0, 0);
 }
 
 #[cycle(expression)]
 #[tactic(auto, unfolding(crate::specs::Rules::mul))]
-fn mul(t: &Tree<'_>, b: &mut Builder<'_>, at: usize, looping: bool, levels: u16)
-    ensures { Did b.old b.new (R.under t.now.image.now levels (R.mul t.now.image.now) at looping) }
+fn mul(b: &mut Builder<'_>, node: Node<'_>, inside: Inside)
+    ensures { Did b.old b.new (R.under (bytes node.entry) inside.levels (R.mul (bytes node.entry)) node.entry.at inside.looping) }
 {
-    if tree::count_at(t.image, at) < 2 {
+    if node.count() < 2 {
         return b.failed(Refusal::Failed);
     }
-    binary(t, b, tree::first_at(t.image, at), looping, levels);
-    put_post(t, b, at, Opcode::Mul, 0, 0);
+    binary(b, node.first(), inside);
+    put_post(b, node, Opcode::Mul, 0, 0);
     pop(b, 1);
 }
 
@@ -482,18 +462,18 @@ fn divisor(tree: &[u8]) -> Divisor
 // The second child first; its guard pushes the divisor.
 #[cycle(expression)]
 #[tactic(auto, unfolding(crate::specs::Rules::div))]
-fn div(t: &Tree<'_>, b: &mut Builder<'_>, at: usize, looping: bool, levels: u16)
-    ensures { Did b.old b.new (R.under t.now.image.now levels (R.div t.now.image.now) at looping) }
+fn div(b: &mut Builder<'_>, node: Node<'_>, inside: Inside)
+    ensures { Did b.old b.new (R.under (bytes node.entry) inside.levels (R.div (bytes node.entry)) node.entry.at inside.looping) }
 {
-    if tree::count_at(t.image, at) < 2 {
+    if node.count() < 2 {
         return b.failed(Refusal::Failed);
     }
-    let a = tree::first_at(t.image, at);
-    expr(t, b, tree::next_at(t.image, a), looping, levels);
-    let e = emit_jump(b, Opcode::DivGuard, divisor(t.image).number(), 0);
+    let a = node.first();
+    expr(b, a.next(), inside);
+    let e = emit_jump(b, Opcode::DivGuard, divisor(*node.image).number(), 0);
     steps::operand(b);
-    expr(t, b, a, looping, levels);
-    put_post(t, b, at, Opcode::Div, 0, 0);
+    expr(b, a, inside);
+    put_post(b, node, Opcode::Div, 0, 0);
     pop(b, 1);
     place_target(b, e);
 }
@@ -501,48 +481,41 @@ fn div(t: &Tree<'_>, b: &mut Builder<'_>, at: usize, looping: bool, levels: u16)
 // Every argument but the last pushed, in order.
 #[cycle(expression)]
 #[tactic(auto, unfolding(crate::specs::Rules::host_math, crate::specs::Payloads::as_math, crate::specs::Payloads::cases))]
-fn host_math(t: &Tree<'_>, b: &mut Builder<'_>, at: usize, bits: u16, looping: bool, levels: u16)
-    ensures { Did b.old b.new (R.under t.now.image.now levels (R.host_math t.now.image.now) bits at looping) }
+fn host_math(b: &mut Builder<'_>, node: Node<'_>, bits: u16, inside: Inside)
+    ensures { Did b.old b.new (R.under (bytes node.entry) inside.levels (R.host_math (bytes node.entry)) bits node.entry.at inside.looping) }
 {
     flag(b, bits);
-    let p = payload::payload_at(t.image, at);
+    let p = payload_of(node);
     let Payload::HostMath(f) = p else {
         return b.failed(Refusal::Failed);
     };
-    let count = tree::count_at(t.image, at);
+    let count = node.count();
     if count == 0 {
         return b.failed(Refusal::Failed);
     }
-    if count > 255 {
+    let Ok(k) = u8::try_from(count) else {
         return b.failed(Refusal::Failed);
-    }
-    host(t, b, at, f, count as u8, count - 1, looping, levels);
+    };
+    host(b, node, f, k, count - 1, inside);
     pop(b, count - 1);
 }
 
 // `m` arguments and the last of `k`, from the first on.
 #[cycle(expression)]
 #[tactic(auto, unfolding(crate::specs::Rules::host_arguments))]
-fn host(
-    t: &Tree<'_>,
-    b: &mut Builder<'_>,
-    at: usize,
-    f: u16,
-    k: u8,
-    m: u16,
-    looping: bool,
-    levels: u16,
-)
-    ensures { Did b.old b.new (R.under t.now.image.now levels (R.host_arguments t.now.image.now) at f k m (first_at t.now.image.now at) looping) }
+fn host(b: &mut Builder<'_>, node: Node<'_>, f: u16, k: u8, m: u16, inside: Inside)
+    ensures { Did b.old b.new
+        (R.under (bytes node.entry) inside.levels (R.host_arguments (bytes node.entry)) node.entry.at f k m
+        (first_at (bytes node.entry) node.entry.at) inside.looping) }
 {
-    let mut argument = tree::first_at(t.image, at);
+    let mut argument = node.first();
     for _ in 0..m {
-        expr(t, b, argument, looping, levels);
+        expr(b, argument, inside);
         b.push();
-        argument = tree::next_at(t.image, argument);
+        argument = argument.next();
     }
-    expr(t, b, argument, looping, levels);
-    put_post(t, b, at, Opcode::HostMath, k, u32::from(f));
+    expr(b, argument, inside);
+    put_post(b, node, Opcode::HostMath, k, u32::from(f));
 }
 
 // ---- calls
@@ -550,45 +523,45 @@ fn host(
 // The second child between PointerEnter, behind the first, and PointerLeave.
 #[cycle(expression)]
 #[tactic(auto, unfolding(crate::specs::Rules::pointer))]
-fn pointer(t: &Tree<'_>, b: &mut Builder<'_>, at: usize, looping: bool, levels: u16)
-    ensures { Did b.old b.new (R.under t.now.image.now levels (R.pointer t.now.image.now) at looping) }
+fn pointer(b: &mut Builder<'_>, node: Node<'_>, inside: Inside)
+    ensures { Did b.old b.new (R.under (bytes node.entry) inside.levels (R.pointer (bytes node.entry)) node.entry.at inside.looping) }
 {
     not_float_only(b);
     flag(b, Flags::USES_ARROW);
-    if tree::count_at(t.image, at) < 2 {
+    if node.count() < 2 {
         return b.failed(Refusal::Failed);
     }
-    let q = post(t, b, at);
-    let a = tree::first_at(t.image, at);
-    expr(t, b, a, looping, levels);
+    let q = post(b, node);
+    let a = node.first();
+    expr(b, a, inside);
     let e = emit_jump(b, Opcode::PointerEnter, 0, q.0);
-    expr(t, b, tree::next_at(t.image, a), looping, levels);
+    expr(b, a.next(), inside);
     instr(b, Opcode::PointerLeave, 0, 0, q);
     place_target(b, e);
 }
 
 #[cycle(expression)]
 #[tactic(auto, unfolding(crate::specs::Rules::query, crate::specs::Rules::called, crate::specs::Payloads::as_query, crate::specs::Payloads::cases))]
-fn query(t: &Tree<'_>, b: &mut Builder<'_>, at: usize, levels: u16)
-    ensures { Did b.old b.new (R.under t.now.image.now levels (R.query t.now.image.now) at) }
+fn query(b: &mut Builder<'_>, node: Node<'_>, levels: u16)
+    ensures { Did b.old b.new (R.under (bytes node.entry) levels (R.query (bytes node.entry)) node.entry.at) }
 {
-    let p = payload::payload_at(t.image, at);
+    let p = payload_of(node);
     let Payload::Query(q) = p else {
         return b.failed(Refusal::Failed);
     };
-    let count = tree::count_at(t.image, at);
+    let count = node.count();
     steps::query_flags(b, count == 0);
     let first = b.state.arguments;
     let call = calls::begin_call(b, q, count);
-    segs(t, b, tree::first_at(t.image, at), count, first, levels);
-    put_post(t, b, at, Opcode::Call, 0, u32::from(call.0));
+    segs(b, node.first(), count, first, levels);
+    put_post(b, node, Opcode::Call, 0, u32::from(call.0));
 }
 
 // Each argument is a segment of its own, without loops; its start goes to its slot.
 #[cycle(expression)]
 #[tactic(auto, unfolding(crate::specs::Rules::arguments))]
-fn segs(t: &Tree<'_>, b: &mut Builder<'_>, a: usize, m: u16, first: u16, levels: u16)
-    ensures { Did b.old b.new (R.under t.now.image.now levels (R.arguments t.now.image.now) b.old.state.base b.old.state.waiting m a first) }
+fn segs(b: &mut Builder<'_>, a: Node<'_>, m: u16, first: u16, levels: u16)
+    ensures { Did b.old b.new (R.under (bytes a.entry) levels (R.arguments (bytes a.entry)) b.old.state.base b.old.state.waiting m a.entry.at first) }
 {
     let base = b.state.base;
     let waiting = b.state.waiting;
@@ -596,9 +569,13 @@ fn segs(t: &Tree<'_>, b: &mut Builder<'_>, a: usize, m: u16, first: u16, levels:
     let mut slot = first;
     for _ in 0..m {
         b.open_segment();
-        expr(t, b, argument, false, levels);
+        let inside = Inside {
+            looping: false,
+            levels,
+        };
+        expr(b, argument, inside);
         calls::end_argument(b, base, waiting, slot);
-        argument = tree::next_at(t.image, argument);
+        argument = argument.next();
         slot = slot.saturating_add(1);
     }
 }
@@ -607,150 +584,151 @@ fn segs(t: &Tree<'_>, b: &mut Builder<'_>, a: usize, m: u16, first: u16, levels:
 
 #[cycle(expression)]
 #[tactic(auto, unfolding(crate::specs::Rules::coalesce))]
-fn coalesce(t: &Tree<'_>, b: &mut Builder<'_>, at: usize, looping: bool, levels: u16)
-    ensures { Did b.old b.new (R.under t.now.image.now levels (R.coalesce t.now.image.now) at looping) }
+fn coalesce(b: &mut Builder<'_>, node: Node<'_>, inside: Inside)
+    ensures { Did b.old b.new (R.under (bytes node.entry) inside.levels (R.coalesce (bytes node.entry)) node.entry.at inside.looping) }
 {
-    if tree::count_at(t.image, at) < 2 {
+    if node.count() < 2 {
         return b.failed(Refusal::Failed);
     }
-    let a = tree::first_at(t.image, at);
+    let a = node.first();
     let e = emit_jump(b, Opcode::HandlerPush, 0, 0);
     steps::enter_handler(b);
-    expr(t, b, a, looping, levels);
+    expr(b, a, inside);
     steps::leave_handler(b);
     let f = emit_jump(b, Opcode::HandlerPop, 0, 0);
     place_target(b, e);
-    expr(t, b, tree::next_at(t.image, a), looping, levels);
+    expr(b, a.next(), inside);
     place_target(b, f);
-    post_instr(t, b, at);
+    post_instr(b, node);
 }
 
 // The third child, or 0.0.
 #[cycle(expression)]
 #[tactic(auto, unfolding(crate::specs::Rules::alternative))]
-fn alt(t: &Tree<'_>, b: &mut Builder<'_>, at: usize, second: usize, looping: bool, levels: u16)
-    ensures { Did b.old b.new (R.under t.now.image.now levels (R.alternative t.now.image.now) at second looping) }
+fn alt(b: &mut Builder<'_>, node: Node<'_>, inside: Inside)
+    ensures { Did b.old b.new
+        (R.under (bytes node.entry) inside.levels (R.alternative (bytes node.entry)) node.entry.at
+        (next_at (bytes node.entry) (first_at (bytes node.entry) node.entry.at)) inside.looping) }
 {
-    if tree::count_at(t.image, at) < 3 {
+    if node.count() < 3 {
         return interning::constant(b, 0);
     }
-    expr(t, b, tree::next_at(t.image, second), looping, levels);
+    expr(b, node.first().next().next(), inside);
 }
 
 // The second child, or the third.
 #[cycle(expression)]
 #[tactic(auto, unfolding(crate::specs::Rules::conditional))]
-fn conditional(t: &Tree<'_>, b: &mut Builder<'_>, at: usize, looping: bool, levels: u16)
-    ensures { Did b.old b.new (R.under t.now.image.now levels (R.conditional t.now.image.now) at looping) }
+fn conditional(b: &mut Builder<'_>, node: Node<'_>, inside: Inside)
+    ensures { Did b.old b.new (R.under (bytes node.entry) inside.levels (R.conditional (bytes node.entry)) node.entry.at inside.looping) }
 {
-    if tree::count_at(t.image, at) < 2 {
+    if node.count() < 2 {
         return b.failed(Refusal::Failed);
     }
-    let a = tree::first_at(t.image, at);
-    let second = tree::next_at(t.image, a);
-    expr(t, b, a, looping, levels);
+    let a = node.first();
+    expr(b, a, inside);
     let e = emit_jump(b, Opcode::JumpIfFalsy, 0, 0);
-    expr(t, b, second, looping, levels);
+    expr(b, a.next(), inside);
     let f = emit_jump(b, Opcode::Jump, 0, 0);
     place_target(b, e);
-    alt(t, b, at, second, looping, levels);
+    alt(b, node, inside);
     place_target(b, f);
-    post_instr(t, b, at);
+    post_instr(b, node);
 }
 
 // Each statement, and the constant of the list behind the last.
 #[cycle(expression)]
 #[tactic(auto, unfolding(crate::specs::Rules::statements))]
-fn statements(t: &Tree<'_>, b: &mut Builder<'_>, at: usize, looping: bool, levels: u16)
-    ensures { Did b.old b.new (R.under t.now.image.now levels (R.statements t.now.image.now) at looping) }
+fn statements(b: &mut Builder<'_>, node: Node<'_>, inside: Inside)
+    ensures { Did b.old b.new (R.under (bytes node.entry) inside.levels (R.statements (bytes node.entry)) node.entry.at inside.looping) }
 {
-    let mut child = tree::first_at(t.image, at);
-    for _ in 0..tree::count_at(t.image, at) {
-        item(t, b, child, looping, levels);
-        child = tree::next_at(t.image, child);
+    let mut child = node.first();
+    for _ in 0..node.count() {
+        item(b, child, inside);
+        child = child.next();
     }
-    interning::constant(b, values::list_constant(t, at));
+    interning::constant(b, values::list_constant(node));
 }
 
 // A statement of a list: only here is a Return one, elsewhere it is a constant.
 #[cycle(expression)]
 #[tactic(auto, unfolding(crate::specs::Rules::statement))]
-fn item(t: &Tree<'_>, b: &mut Builder<'_>, at: usize, looping: bool, levels: u16)
-    ensures { Did b.old b.new (R.under t.now.image.now levels (R.statement t.now.image.now) at looping) }
+fn item(b: &mut Builder<'_>, node: Node<'_>, inside: Inside)
+    ensures { Did b.old b.new (R.under (bytes node.entry) inside.levels (R.statement (bytes node.entry)) node.entry.at inside.looping) }
 {
-    if t.rule_at(at) == operators::RETURN {
-        return ret(t, b, at, looping, levels);
+    if node.rule() == operators::RETURN {
+        return ret(b, node, inside);
     }
-    expr(t, b, at, looping, levels);
+    expr(b, node, inside);
 }
 
 // A Return of a statement list.
 #[cycle(expression)]
 #[tactic(auto, unfolding(crate::specs::Rules::returned, crate::specs::Rules::ret))]
-fn ret(t: &Tree<'_>, b: &mut Builder<'_>, at: usize, looping: bool, levels: u16)
-    ensures { Did b.old b.new (R.returned t.now.image.now levels at looping) }
+fn ret(b: &mut Builder<'_>, node: Node<'_>, inside: Inside)
+    ensures { Did b.old b.new (R.returned (bytes node.entry) inside.levels node.entry.at inside.looping) }
 {
-    if levels == 0 {
+    if inside.levels == 0 {
         return b.failed(Refusal::Failed);
     }
-    if tree::count_at(t.image, at) == 0 {
+    if node.count() == 0 {
         interning::constant(b, 0);
-        return put_post(t, b, at, Opcode::Return, 0, 0);
+        return put_post(b, node, Opcode::Return, 0, 0);
     }
-    expr(t, b, tree::first_at(t.image, at), looping, levels - 1);
-    put_post(t, b, at, Opcode::Return, 0, 0);
+    expr(b, node.first(), inside.deeper());
+    put_post(b, node, Opcode::Return, 0, 0);
 }
 
 // counted_loop in the Rust: the count, and the body so often.
 #[cycle(expression)]
 #[tactic(auto, unfolding(crate::specs::Rules::counted_loop))]
-fn repeat(t: &Tree<'_>, b: &mut Builder<'_>, at: usize, looping: bool, levels: u16)
-    ensures { Did b.old b.new (R.under t.now.image.now levels (R.counted_loop t.now.image.now) at looping) }
+fn repeat(b: &mut Builder<'_>, node: Node<'_>, inside: Inside)
+    ensures { Did b.old b.new (R.under (bytes node.entry) inside.levels (R.counted_loop (bytes node.entry)) node.entry.at inside.looping) }
 {
     flag(b, Flags::HAS_LOOPS);
-    if tree::count_at(t.image, at) < 2 {
+    if node.count() < 2 {
         return b.failed(Refusal::Failed);
     }
-    let a = tree::first_at(t.image, at);
-    expr(t, b, a, looping, levels);
+    let a = node.first();
+    expr(b, a, inside);
     let e = emit_jump(b, Opcode::LoopBegin, 0, 0);
     steps::operand(b);
     steps::enter_loop(b);
-    expr(t, b, tree::next_at(t.image, a), true, levels);
+    expr(b, a.next(), inside.a_loop());
     control::close_loop(b, e);
     pop(b, 1);
     steps::leave_loop(b);
-    interning::constant(b, values::folded(t, at, 0));
+    interning::constant(b, values::folded(node, 0));
 }
 
 #[cycle(expression)]
 #[tactic(auto, unfolding(crate::specs::Rules::for_each))]
-fn for_each(t: &Tree<'_>, b: &mut Builder<'_>, at: usize, looping: bool, levels: u16)
-    ensures { Did b.old b.new (R.under t.now.image.now levels (R.for_each t.now.image.now) at looping) }
+fn for_each(b: &mut Builder<'_>, node: Node<'_>, inside: Inside)
+    ensures { Did b.old b.new (R.under (bytes node.entry) inside.levels (R.for_each (bytes node.entry)) node.entry.at inside.looping) }
 {
     flag(b, Flags::HAS_LOOPS);
     not_float_only(b);
-    if tree::count_at(t.image, at) < 3 {
+    if node.count() < 3 {
         return b.failed(Refusal::Failed);
     }
-    if let Some(k) = control::variable(t, b, tree::first_at(t.image, at)) {
-        each(t, b, at, k, looping, levels);
+    if let Some(k) = control::variable(b, node.first()) {
+        each(b, node, k, inside);
     }
 }
 
 // Behind a ForEach's variable: the array, and the body once for each element.
 #[cycle(expression)]
 #[tactic(auto, unfolding(crate::specs::Rules::each))]
-fn each(t: &Tree<'_>, b: &mut Builder<'_>, at: usize, k: EachIndex, looping: bool, levels: u16)
-    ensures { Did b.old b.new (R.under t.now.image.now levels (R.each t.now.image.now) at (each_next k) looping) }
+fn each(b: &mut Builder<'_>, node: Node<'_>, k: EachIndex, inside: Inside)
+    ensures { Did b.old b.new (R.under (bytes node.entry) inside.levels (R.each (bytes node.entry)) node.entry.at (each_next k) inside.looping) }
 {
-    let array = tree::next_at(t.image, tree::first_at(t.image, at));
-    expr(t, b, array, looping, levels);
+    let array = node.first().next();
+    expr(b, array, inside);
     let e = emit_jump(b, Opcode::EachBegin, 0, 0);
     let f = control::each_next(b, k);
     steps::enter_loop(b);
-    expr(t, b, tree::next_at(t.image, array), true, levels);
+    expr(b, array.next(), inside.a_loop());
     control::close_each(b, e, f);
     steps::leave_loop(b);
-    interning::constant(b, values::folded(t, at, 0));
+    interning::constant(b, values::folded(node, 0));
 }

@@ -2,17 +2,17 @@
 ghost use Rattle.std.specs.Prelude.{◌≡◌};
 ghost use Rattle.numeric.specs.PostOp.{patterns};
 ghost use Rattle.program.specs.Opcodes.{number_of};
+ghost use Rattle.tree.specs.Nodes.{bytes};
 ghost use Rattle.builder.specs.Done.{Did};
 ghost use Rattle.lowering.specs.Done.{Gave};
 ghost use Rattle.lowering.specs.Pools as B;
 ghost use Rattle.lowering.specs.Parts.{front, instr, post_bits, put_post, post_instr, emit_jump, place_target};
 
-use crate::image::Tree;
-use crate::interning;
-use builder::Builder;
+use crate::{Builder, interning};
 use numeric::{PostBits, PostOp};
 use program::PostIdx;
 use program::opcodes::Opcode;
+use tree::Node;
 
 fn front(op: Opcode, sub: u8, b: u16) -> u32
     ensures { result ≡ front (number_of op) sub b }
@@ -20,7 +20,7 @@ fn front(op: Opcode, sub: u8, b: u16) -> u32
     u32::from(op.number()) * 16777216 + u32::from(sub) * 65536 + u32::from(b)
 }
 
-// An instruction of these fields; a Push that waits comes first.
+// An instruction of these fields; a Push that waits comes first. The sub is a number: a comparison's, a divisor's, or a count of arguments.
 #[tactic(auto, unfolding(crate::specs::Parts::instr))]
 pub(crate) fn instr(b: &mut Builder<'_>, op: Opcode, sub: u8, a: u32, post: PostIdx)
     ensures { Did b.old b.new (instr (number_of op) sub a post.0) }
@@ -29,43 +29,43 @@ pub(crate) fn instr(b: &mut Builder<'_>, op: Opcode, sub: u8, a: u32, post: Post
 }
 
 // The patterns of the node's post.
-pub(crate) fn bits_at(t: &Tree<'_>, at: usize) -> PostBits
-    ensures { patterns result ≡ post_bits t.now.image.now at }
+pub(crate) fn bits_of(node: Node<'_>) -> PostBits
+    ensures { patterns result ≡ post_bits (bytes node.entry) node.entry.at }
 {
     PostBits {
-        scale: tree::scale_at(t.image, at),
-        offset: tree::offset_at(t.image, at),
+        scale: node.scale(),
+        offset: node.offset(),
     }
 }
 
 // The slot of the node's post.
-pub(crate) fn post(t: &Tree<'_>, b: &mut Builder<'_>, at: usize) -> PostIdx
-    ensures { Gave b.old b.new result.0 (B.post (post_bits t.now.image.now at)) }
+pub(crate) fn post(b: &mut Builder<'_>, node: Node<'_>) -> PostIdx
+    ensures { Gave b.old b.new result.0 (B.post (post_bits (bytes node.entry) node.entry.at)) }
 {
-    let bits = bits_at(t, at);
+    let bits = bits_of(node);
     interning::post_of(b, PostOp::of_bits(bits.scale, bits.offset), bits)
 }
 
 // An instruction with the node's post.
 #[tactic(auto, unfolding(crate::specs::Parts::put_post))]
-pub(crate) fn put_post(t: &Tree<'_>, b: &mut Builder<'_>, at: usize, op: Opcode, sub: u8, a: u32)
-    ensures { Did b.old b.new (put_post t.now.image.now at (number_of op) sub a) }
+pub(crate) fn put_post(b: &mut Builder<'_>, node: Node<'_>, op: Opcode, sub: u8, a: u32)
+    ensures { Did b.old b.new (put_post (bytes node.entry) node.entry.at (number_of op) sub a) }
 {
-    let q = post(t, b, at);
+    let q = post(b, node);
     instr(b, op, sub, a, q);
 }
 
 // A Post behind a branch; nothing for the identity.
 #[tactic(auto, unfolding(crate::specs::Parts::post_instr))]
-pub(crate) fn post_instr(t: &Tree<'_>, b: &mut Builder<'_>, at: usize)
-    ensures { Did b.old b.new (post_instr t.now.image.now at) }
+pub(crate) fn post_instr(b: &mut Builder<'_>, node: Node<'_>)
+    ensures { Did b.old b.new (post_instr (bytes node.entry) node.entry.at) }
 {
-    let bits = bits_at(t, at);
+    let bits = bits_of(node);
     if interning::is_identity(PostOp::of_bits(bits.scale, bits.offset), bits) {
         b.flush();
         return;
     }
-    put_post(t, b, at, Opcode::Post, 0, 0);
+    put_post(b, node, Opcode::Post, 0, 0);
 }
 
 // An instruction whose target is not known yet; its place in the open segment.

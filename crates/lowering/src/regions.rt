@@ -1,4 +1,4 @@
-// The regions that lowering fills with entries.
+// The regions that lowering fills with entries. Their places are cut by `as`, since a constant cannot call `try_from`.
 ghost use Rattle.std.specs.Prelude.{◌<◌, ◌≤◌};
 
 use workspace::layout;

@@ -3,7 +3,7 @@ ghost use Rattle.builder.specs.Done.{Did};
 ghost use Rattle.builder.specs.Steps.{still};
 ghost use Rattle.lowering.specs.Steps.{operand_entered, popped, loop_entered, loop_left, handler_entered, handler_left, flagged, not_float_only, queried};
 
-use builder::Builder;
+use crate::Builder;
 use program::Flags;
 
 // One more operand, which no Push puts there.

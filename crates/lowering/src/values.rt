@@ -3,25 +3,27 @@ ghost use Rattle.std.specs.Prelude.{◌≡◌};
 ghost use Rattle.numeric.specs.Post.{fold};
 ghost use Rattle.ast.specs.Node.{offset_at};
 ghost use Rattle.payload.specs.Payloads.{payload_ref_at};
+ghost use Rattle.program.specs.Opcodes.{number_of};
+ghost use Rattle.tree.specs.Nodes.{bytes};
 ghost use Rattle.builder.specs.Done.{Did};
 ghost use Rattle.lowering.specs.Pools.{constant};
 ghost use Rattle.lowering.specs.Payloads.{float_of, const_of, string_of, resource_of};
 ghost use Rattle.lowering.specs.Parts.{post_bits};
+ghost use Rattle.lowering.specs.Leaves.{hashed};
 ghost use Rattle.lowering.specs.Rules as R;
 
-use crate::image::Tree;
-use crate::interning;
-use crate::parts::{bits_at, instr, post, put_post};
+use crate::parts::{bits_of, instr, post, put_post};
 use crate::steps::{flag, not_float_only};
+use crate::{Builder, interning};
 use answers::refusals::Refusal;
-use builder::Builder;
 use numeric::PostOp;
-use payload::{NameRef, Payload};
+use payload::{NameRef, Payload, payload_of};
 use program::opcodes::Opcode;
 use program::{Flags, PostIdx};
+use tree::Node;
 use workspace::words::low;
 
-// ---- what a payload reads as
+// ---- what a payload reads as: `float_bits` and `string_hash` are alike, and differ in the case and in its type
 
 #[tactic(auto, unfolding(crate::specs::Payloads::float_of, crate::specs::Payloads::cases))]
 pub(crate) fn float_bits(p: Payload) -> u32
@@ -67,64 +69,69 @@ fn resource_hash(p: Payload) -> u64
 }
 
 // The node's post folded into a constant.
-pub(crate) fn folded(t: &Tree<'_>, at: usize, raw: u32) -> u32
-    ensures { result ≡ fold (post_bits t.now.image.now at) raw }
+pub(crate) fn folded(node: Node<'_>, raw: u32) -> u32
+    ensures { result ≡ fold (post_bits (bytes node.entry) node.entry.at) raw }
 {
-    let bits = bits_at(t, at);
+    let bits = bits_of(node);
     PostOp::of_bits(bits.scale, bits.offset).fold(raw)
 }
 
 // The constant behind a statement list: its offset alone.
-pub(crate) fn list_constant(t: &Tree<'_>, at: usize) -> u32
-    ensures { result ≡ offset_at t.now.image.now at }
+pub(crate) fn list_constant(node: Node<'_>) -> u32
+    ensures { result ≡ offset_at (bytes node.entry) node.entry.at }
 {
-    tree::offset_at(t.image, at)
+    node.offset()
 }
 
 // ---- rules without operands
 
-pub(crate) fn float(t: &Tree<'_>, b: &mut Builder<'_>, at: usize)
-    ensures { Did b.old b.new (constant (float_of (payload_ref_at t.now.image.now at))) }
+pub(crate) fn float(b: &mut Builder<'_>, node: Node<'_>)
+    ensures { Did b.old b.new (constant (float_of (payload_ref_at (bytes node.entry) node.entry.at))) }
 {
-    let p = payload::payload_at(t.image, at);
+    let p = payload_of(node);
     interning::constant(b, float_bits(p));
 }
 
-#[tactic(auto, unfolding(crate::specs::Leaves::string_literal))]
-pub(crate) fn string_literal(t: &Tree<'_>, b: &mut Builder<'_>, at: usize)
-    ensures { Did b.old b.new (R.string_literal t.now.image.now at) }
+// A hash by the instruction that reads it. The hint has each caller take it in: as a function of its own it makes equal strings slower.
+#[inline]
+#[tactic(auto, unfolding(crate::specs::Leaves::hashed))]
+fn put_hash(b: &mut Builder<'_>, op: Opcode, h: u64)
+    ensures { Did b.old b.new (hashed (number_of op) h) }
 {
     not_float_only(b);
-    let p = payload::payload_at(t.image, at);
-    let index = interning::hash(b, string_hash(p));
-    instr(b, Opcode::Hash, 0, index.0, PostIdx::PLAIN);
+    let index = interning::hash(b, h);
+    instr(b, op, 0, index.0, PostIdx::PLAIN);
+}
+
+#[tactic(auto, unfolding(crate::specs::Leaves::string_literal))]
+pub(crate) fn string_literal(b: &mut Builder<'_>, node: Node<'_>)
+    ensures { Did b.old b.new (R.string_literal (bytes node.entry) node.entry.at) }
+{
+    put_hash(b, Opcode::Hash, string_hash(payload_of(node)));
 }
 
 #[tactic(auto, unfolding(crate::specs::Leaves::resource))]
-pub(crate) fn resource(t: &Tree<'_>, b: &mut Builder<'_>, at: usize)
-    ensures { Did b.old b.new (R.resource t.now.image.now at) }
+pub(crate) fn resource(b: &mut Builder<'_>, node: Node<'_>)
+    ensures { Did b.old b.new (R.resource (bytes node.entry) node.entry.at) }
 {
-    not_float_only(b);
-    let p = payload::payload_at(t.image, at);
-    let index = interning::hash(b, resource_hash(p));
-    instr(b, Opcode::Resource, 0, index.0, PostIdx::PLAIN);
+    put_hash(b, Opcode::Resource, resource_hash(payload_of(node)));
 }
 
 // The node's constant with its post folded in.
 #[tactic(auto, unfolding(crate::specs::Leaves::generic))]
-pub(crate) fn generic_constant(t: &Tree<'_>, b: &mut Builder<'_>, at: usize)
-    ensures { Did b.old b.new (R.generic t.now.image.now at) }
+pub(crate) fn generic_constant(b: &mut Builder<'_>, node: Node<'_>)
+    ensures { Did b.old b.new (R.generic (bytes node.entry) node.entry.at) }
 {
-    let p = payload::payload_at(t.image, at);
-    let bits = folded(t, at, constant_bits(p));
+    let p = payload_of(node);
+    let bits = folded(node, constant_bits(p));
     interning::constant(b, bits);
 }
 
 #[tactic(auto, unfolding(crate::specs::Leaves::load_context, crate::specs::Payloads::as_name, crate::specs::Payloads::cases))]
-fn load_context(t: &Tree<'_>, b: &mut Builder<'_>, at: usize, q: PostIdx)
-    ensures { Did b.old b.new (R.load_context t.now.image.now at q.0) }
+fn load_context(b: &mut Builder<'_>, node: Node<'_>, q: PostIdx)
+    ensures { Did b.old b.new (R.load_context (bytes node.entry) node.entry.at q.0) }
 {
-    let p = payload::payload_at(t.image, at);
+    let p = payload_of(node);
     let Payload::Context(n) = p else {
         return b.failed(Refusal::Failed);
     };
@@ -134,24 +141,24 @@ fn load_context(t: &Tree<'_>, b: &mut Builder<'_>, at: usize, q: PostIdx)
 }
 
 #[tactic(auto, unfolding(crate::specs::Leaves::load_temp, crate::specs::Payloads::as_name, crate::specs::Payloads::cases))]
-fn load_temp(t: &Tree<'_>, b: &mut Builder<'_>, at: usize, q: PostIdx)
-    ensures { Did b.old b.new (R.load_temp t.now.image.now at q.0) }
+fn load_temp(b: &mut Builder<'_>, node: Node<'_>, q: PostIdx)
+    ensures { Did b.old b.new (R.load_temp (bytes node.entry) node.entry.at q.0) }
 {
-    let p = payload::payload_at(t.image, at);
+    let p = payload_of(node);
     let Payload::Temp(n) = p else {
-        return load_context(t, b, at, q);
+        return load_context(b, node, q);
     };
     let index = interning::temp(b, n);
     instr(b, Opcode::LoadTemp, 0, u32::from(index.0), q);
 }
 
 #[tactic(auto, unfolding(crate::specs::Leaves::load_var, crate::specs::Payloads::as_name, crate::specs::Payloads::cases))]
-fn load_var(t: &Tree<'_>, b: &mut Builder<'_>, at: usize, q: PostIdx)
-    ensures { Did b.old b.new (R.load_var t.now.image.now at q.0) }
+fn load_var(b: &mut Builder<'_>, node: Node<'_>, q: PostIdx)
+    ensures { Did b.old b.new (R.load_var (bytes node.entry) node.entry.at q.0) }
 {
-    let p = payload::payload_at(t.image, at);
+    let p = payload_of(node);
     let Payload::Entity(n) = p else {
-        return load_temp(t, b, at, q);
+        return load_temp(b, node, q);
     };
     flag(b, Flags::READS_ACTOR_VARS);
     let index = interning::name(b, n);
@@ -160,32 +167,32 @@ fn load_var(t: &Tree<'_>, b: &mut Builder<'_>, at: usize, q: PostIdx)
 
 // A variable, whatever the operator: the payload tells its kind.
 #[tactic(auto, unfolding(crate::specs::Leaves::load))]
-pub(crate) fn load(t: &Tree<'_>, b: &mut Builder<'_>, at: usize)
-    ensures { Did b.old b.new (R.load t.now.image.now at) }
+pub(crate) fn load(b: &mut Builder<'_>, node: Node<'_>)
+    ensures { Did b.old b.new (R.load (bytes node.entry) node.entry.at) }
 {
-    let q = post(t, b, at);
-    load_var(t, b, at, q);
+    let q = post(b, node);
+    load_var(b, node, q);
 }
 
 // ---- behind an operand
 
 // A member read behind its base; `last` is the last member of the path.
 #[tactic(auto, unfolding(crate::specs::Leaves::member_put, crate::specs::Payloads::as_name, crate::specs::Payloads::cases))]
-pub(crate) fn member_put(t: &Tree<'_>, b: &mut Builder<'_>, at: usize, last: NameRef)
-    ensures { Did b.old b.new (R.member_put t.now.image.now at last) }
+pub(crate) fn member_put(b: &mut Builder<'_>, node: Node<'_>, last: NameRef)
+    ensures { Did b.old b.new (R.member_put (bytes node.entry) node.entry.at last) }
 {
-    let p = payload::payload_at(t.image, at);
+    let p = payload_of(node);
     let Payload::Member(n) = p else {
         return b.failed(Refusal::Failed);
     };
     let index = interning::member(b, n, last);
-    put_post(t, b, at, Opcode::Member, 0, u32::from(index.0));
+    put_post(b, node, Opcode::Member, 0, u32::from(index.0));
 }
 
 #[tactic(auto, unfolding(crate::specs::Leaves::array_put))]
-pub(crate) fn array_put(t: &Tree<'_>, b: &mut Builder<'_>, at: usize, n: NameRef)
-    ensures { Did b.old b.new (R.array_put t.now.image.now at n) }
+pub(crate) fn array_put(b: &mut Builder<'_>, node: Node<'_>, n: NameRef)
+    ensures { Did b.old b.new (R.array_put (bytes node.entry) node.entry.at n) }
 {
     let index = interning::name(b, n);
-    put_post(t, b, at, Opcode::ArrayElement, 0, u32::from(index.0));
+    put_post(b, node, Opcode::ArrayElement, 0, u32::from(index.0));
 }

@@ -28,6 +28,7 @@ fn list_all(rt: &impl Print, images: &[u8]) -> io::Result<()> {
 }
 
 // The images of a list. One that is cut off is taken as it is, a length that is cut off filled up with zeros.
+// A usize has no `From` of a u32, so `as` widens a length.
 #[derive(Drop)]
 struct Pieces<'a>(&'a [u8]);
 

@@ -74,7 +74,7 @@ impl Depths {
     }
 }
 
-// A program's flags, by their bits.
+// A program's flags, by their bits: the card has them as one number, and several at once.
 #[derive(Drop)]
 pub struct Flags;
 

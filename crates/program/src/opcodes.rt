@@ -55,7 +55,7 @@ pub enum Opcode {
 }
 
 impl Opcode {
-    // The first byte of an instruction.
+    // The first byte of an instruction. A variant's number is had by `as` alone.
     pub fn number(self) -> u8
         ensures { result ≡ number_of self }
     {

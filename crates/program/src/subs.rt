@@ -1,4 +1,5 @@
 // The subs that have a name, each with its number on the card: of Cmp and CmpConst; of Eq, EqConst and EqHash; of DivGuard.
+// A variant's number is had by `as` alone.
 ghost use Rattle.std.specs.Prelude.{◌≡◌};
 ghost use Rattle.program.specs.Subs.{comparison_of, equality_of, divisor_of};
 

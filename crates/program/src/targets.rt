@@ -4,7 +4,7 @@ ghost use Rattle.program.specs.Targets.{shift_of};
 
 use crate::opcodes::Opcode;
 
-// What is added to an instruction's A: `base` where A is a target.
+// What is added to an instruction's A: `base` where A is a target. Of any byte: what stands in the workspace need be no opcode.
 pub fn shift(op: u8, base: u32) -> u32
     ensures { result ≡ shift_of op base }
 {

@@ -1,105 +1,92 @@
-// Questions 2 to 4 on a tree image. The table of rules is laid out once for an image, and lent.
+// Questions 2 to 4 on a tree image. A usize has no `From` of a u32, so `as` widens it.
 #![tactic(auto)]
 
 ghost use Rattle.std.specs.Prelude.{◌≡◌};
 ghost use Rattle.answers.specs.Refusals.{number_of_result};
 ghost use Rattle.ast.specs.Node.{size_at};
 ghost use Rattle.ast.specs.Questions.{fits, row, filled, whole, questions};
+ghost use Rattle.tree.specs.Nodes.{bytes};
 
 use answers::refusals::Refusal;
+use ast::header;
 use ast::kinds::Kind;
-use ast::{RuleTable, header};
+use tree::Node;
 
-// The node at `p`, whose payload takes `size` bytes, is known, holds its own fields, and ends at `end` or before.
-fn fits_at(s: &[u8], p: usize, size: u16, end: usize, table: &RuleTable) -> bool
-    requires { size ≡ size_at s.now p }
-    ensures { result ≡ fits s.now p end }
+// The node, whose payload takes `size` bytes, is known, holds its own fields, and ends at `end` or before. One test after the other is faster than a chain.
+#[tactic(auto, unfolding(ast::specs::Questions::fits, ast::specs::Rules::known, ast::specs::Rules::rule_of))]
+fn fits_at(node: Node<'_>, size: u16, end: usize) -> bool
+    requires { size ≡ size_at (bytes node) node.at }
+    ensures { result ≡ fits (bytes node.entry) node.entry.at end }
 {
-    if table.rule(tree::op_at(s, p)) == 0 {
+    if node.rule() == 0 || Kind::try_from(node.kind()).is_err() {
         return false;
     }
-    let Ok(_) = Kind::try_from(tree::kind_at(s, p)) else {
-        return false;
-    };
-    let len = tree::length_at(s, p) as usize;
-    let own = 12 + (size as usize);
+    let len = node.length() as usize;
+    let own = 12 + usize::from(size);
     if len < own {
         return false;
     }
-    p <= end && 4 + len <= end - p
+    node.at <= end && 4 + len <= end - node.at
 }
 
-// From `p` on `n` nodes stand one behind the other up to `end`, each right inside to so many levels.
+// From the node on `n` nodes stand one behind the other up to `end`, each right inside to so many levels.
 // A payload's size is read once; count and children stand behind it. Most nodes have no children, and are told without a call.
-fn row_at(s: &[u8], levels: u16, n: u16, p: usize, end: usize, table: &RuleTable) -> bool
-    ensures { result ≡ row (filled levels s.now) s.now n p end }
+#[tactic(auto, using(crate::proofs::MoreLevels::next_level), unfolding(ast::specs::Questions::row, ast::specs::Questions::filled))]
+fn row_at(node: Node<'_>, levels: u16, n: u16, end: usize) -> bool
+    ensures { result ≡ row (filled levels (bytes node.entry)) (bytes node.entry) n node.entry.at end }
 {
     if n == 0 {
-        return p == end;
+        return node.at == end;
     }
-    let size = tree::size_at(s, p);
-    if fits_at(s, p, size, end, table) {
-        if levels == 0 {
-            return false;
-        }
-        let next = tree::next_at(s, p);
-        let count = wire::get_u16(s, p, 14 + size);
-        let first = tree::place(s, p, 16 + (size as usize));
-        let inside = if count == 0 {
-            first == next
-        } else {
-            row_at(s, levels - 1, count, first, next, table)
-        };
-        if inside {
-            return row_at(s, levels, n - 1, next, end, table);
-        }
+    let size = node.size();
+    if !fits_at(node, size, end) || levels == 0 {
         return false;
+    }
+    let next = node.next();
+    let count = wire::get_u16(*node.image, node.at, 14 + size);
+    let first = node.behind(16 + usize::from(size));
+    let inside = if count == 0 {
+        first.at == next.at
+    } else {
+        row_at(first, levels - 1, count, next.at)
+    };
+    if inside {
+        return row_at(next, levels, n - 1, end);
     }
     false
 }
 
+#[tactic(auto, unfolding(ast::specs::Questions::whole))]
 fn whole_at(s: &[u8]) -> bool
     ensures { result ≡ whole s.now }
 {
-    if header::SHORTEST <= s.len() {
-        if s.len() <= header::LONGEST {
-            if wire::get_u8(s, 0, 0) == header::VERSION {
-                return header::SHORTEST + (wire::get_u32(s, 0, header::REST) as usize) == s.len();
-            }
-            return false;
-        }
-        return false;
-    }
-    false
+    header::SHORTEST <= s.len()
+        && s.len() <= header::LONGEST
+        && wire::get_u8(s, 0, 0) == header::VERSION
+        && header::SHORTEST + (wire::get_u32(s, 0, header::REST) as usize) == s.len()
 }
 
 // The first of questions 2 to 4 that is answered by no.
+#[tactic(auto, using(crate::proofs::MoreLevels::more_levels), unfolding(ast::specs::Questions::questions, ast::specs::Questions::formed, ast::specs::Questions::shallow, ast::specs::Questions::rooted))]
 pub fn check_image(tree: &[u8]) -> Result<(), Refusal>
     ensures { number_of_result result ≡ questions tree.now }
 {
-    if whole_at(tree) {
-        if 1 < wire::get_u8(tree, 0, header::ARRAYS) {
-            return Err(Refusal::Damaged);
-        }
-        if 1 < wire::get_u8(tree, 0, header::DIVISOR) {
-            return Err(Refusal::Damaged);
-        }
-        let table = RuleTable::new();
-        if row_at(tree, header::LEVELS, 1, header::ROOT, tree.len(), &table) {
-            return Ok(());
-        }
-        // This pass tells 3 from 4.
-        if row_at(
-            tree,
-            header::ALL_LEVELS,
-            1,
-            header::ROOT,
-            tree.len(),
-            &table,
-        ) {
-            return Err(Refusal::TooDeep);
-        }
+    if !whole_at(tree) {
+        return Err(Refusal::NoTreeImage);
+    }
+    if 1 < wire::get_u8(tree, 0, header::ARRAYS) || 1 < wire::get_u8(tree, 0, header::DIVISOR) {
         return Err(Refusal::Damaged);
     }
-    Err(Refusal::NoTreeImage)
+    let root = Node {
+        image: &tree,
+        at: header::ROOT,
+    };
+    if row_at(root, header::LEVELS, 1, tree.len()) {
+        return Ok(());
+    }
+    // This pass tells 3 from 4.
+    if row_at(root, header::ALL_LEVELS, 1, tree.len()) {
+        return Err(Refusal::TooDeep);
+    }
+    Err(Refusal::Damaged)
 }

@@ -36,7 +36,7 @@ pub(crate) fn number(list: &mut impl Read) -> Result<u32, Damage> {
     Ok(u32::from_be_bytes(bytes))
 }
 
-// The next length and so many bytes.
+// The next length and so many bytes. A usize has no `From` of a u32, so `as` widens the length.
 pub(crate) fn part<'a>(list: &mut impl Read, room: &'a mut [u8]) -> Result<&'a [u8], Damage> {
     let length = number(list)?;
     let part = room

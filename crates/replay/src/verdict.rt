@@ -36,7 +36,7 @@ pub(crate) fn next(list: &mut impl Read) -> Result<Option<Difference>, Damage> {
     Ok(compared(tree, refusal, image))
 }
 
-// Of refusal, length and every byte the first that differs.
+// Of refusal, length and every byte the first that differs. The refusal is a number: what the list has need be no refusal's.
 fn compared(tree: &[u8], refusal: u32, image: &[u8]) -> Option<Difference> {
     let mut out = bench::output();
     let answer = bench::answer(tree, &mut out);

@@ -1,33 +1,28 @@
 -- The arguments of a call, each a segment of its own, and the call that they fill. Assumes nothing.
-use mathlib.Core.Path.{◌≡◌, refl, sym, ap, subst}
-use mathlib.Core.Bool.{Bool, false}
-use mathlib.Core.List.{List, [], ◌∷◌, ◌++◌, map, append_assoc, append-nil}
-use Prim.Native.Nat.{ℕ, zero, suc, ◌+◌, ◌≤◌, ◌<◌}
-use native.Mathlib.Omega.{arith}
-use lib.ListN.{length, length-append}
+use Rattle.std.proofs.Common.{rules, ◌≡◌, refl, ap, subst, Bool, false, List, [], ◌∷◌, ◌++◌, map, append_assoc, ℕ, zero, suc, ◌+◌, ◌≤◌, ◌<◌, arith, length, length-append}
+use lib.ListN.{length-map}
 use Rattle.ast.specs.Node.{next_at}
 use Rattle.program.specs.Instruction.{end}
-use Rattle.program.specs.Image.{word_of, word}
+use Rattle.program.specs.Image.{word_of}
 use Rattle.program.specs.Program.{Counts}
 use Rattle.semantics.specs.State.{Item, instr, State}
 use Rattle.semantics.specs.Pieces.{Lowered, Lowering, aim, flush}
 use Rattle.semantics.specs.Lowering.{Lowerings, arguments, pasts}
 use Rattle.payload.specs.declared.NameRef.{NameRef}
 use Rattle.payload.specs.Payloads.{named}
-use Rattle.workspace.specs.Layout.{OPEN, CALLS}
+use Rattle.workspace.specs.Layout.{CALLS}
 use Rattle.lowering.specs.Pools.{after}
 use Rattle.builder.specs.Segments as T
-use Rattle.builder.specs.Steps.{Held}
+use Rattle.lowering.specs.Held.{Held}
 use Rattle.lowering.specs.Parts as L
 use Rattle.lowering.specs.Parts.{Step}
 use Rattle.builder.specs.Steps.{still}
 use Rattle.lowering.specs.Rules as R
-use Rattle.representation.proofs.Rows.{Rows}
-use Rattle.representation.proofs.Represents.{ItemAt, OpenCall, OpenCalls, reserved_by, Abs, Fits, Content, Does, run}
+use Rattle.representation.proofs.Represents.{OpenCall, OpenCalls, reserved_by, Abs, Fits, Content, Does, run}
 use Rattle.representation.proofs.Keeps.{call_within}
 use Rattle.representation.proofs.Entries.{TextOf}
 use Rattle.representation.proofs.OpenCode.{back_code}
-use Rattle.representation.proofs.Targets.{mk, aim_at, length_aimed}
+use Rattle.representation.proofs.Targets.{mk, aim_at}
 use Rattle.representation.proofs.Loops.{puts}
 use Rattle.representation.proofs.Segments.{closed_state, close_back, close_keep, pasts_length}
 use Rattle.representation.proofs.Calls.{grown, start_keep}
@@ -47,26 +42,17 @@ module _ (tree : List ℕ) (E : ℕ → Bool → Step) (C : ℕ → NameRef → 
   Children (a ∷ xs) zero q = ⊥
   Children (a ∷ xs) (suc m) q = Child a q × Children xs m (next_at tree q)
 
+  pub children_count : (xs : List Lowerings) (m q : ℕ) → Children xs m q → length xs ≡ m
+  children_count [] zero q k = refl
+  children_count (a ∷ xs) (suc m) q k = ap suc (children_count xs m (next_at tree q) k.1)
+  children_count xs m q k = absurd k
+
 -- ---- a segment opened
 
 module _ {tree : List ℕ} {c : Counts} where
   opened_keep : (A : Abs) (h : Held) → Content tree c h A → Content tree c (still T.opened h) (mk (A.outer ++ A.code) [] false A.open_calls A.state)
   unfolding T.opened
-  opened_keep A h r =
-      let t = r.tables in
-      let b = r.beside in
-      let n = t.open_code.count in
-      let e = sym (append-nil (A.outer ++ A.code)) in
-      let l = ap length e in
-      record {
-        enough = r.enough;
-        beside = record { waiting_is = refl; stack_is = b.stack_is; loops_is = b.loops_is; handlers_is = b.handlers_is; stack_max = b.stack_max; loops_max = b.loops_max; handlers_max = b.handlers_max; stack_within = b.stack_within; loops_within = b.loops_within; handlers_within = b.handlers_within; bits_are = b.bits_are; float_loop_is = b.float_loop_is; number_is = b.number_is };
-        tables = record { open_base = n; open_code = record { count = omega arith; rows = subst (λ (x : List Item). Rows 2 (ItemAt h.1) OPEN x) e t.open_code.rows }; the_finished_code = t.the_finished_code; the_consts = t.the_consts; the_posts = t.the_posts; the_hashes = t.the_hashes; the_names = t.the_names; the_temps = t.the_temps; the_members = t.the_members; the_stores = t.the_stores; path_count = t.path_count; call_count = t.call_count; the_calls = t.the_calls; the_open = t.the_open; argument_count = t.argument_count };
-      }
-
-end_word : word_of end ≡ word 48 0 0 0
-unfolding word_of
-end_word = refl
+  opened_keep A h r = search rules
 
 -- ---- one argument
 
@@ -89,7 +75,7 @@ module _ (c : Counts) where
 
   ended_fits : (f : Lowering) (A : Abs) → Fits (mk A.outer A.code A.wait A.open_calls (after_segment f c A.state)) → Fits (mk (A.outer ++ A.code) (code_of f c A.state) false A.open_calls (segment_of f c A.state).state)
   ended_fits f A q =
-      let l = length_aimed 0 0 (code_of f c A.state) in
+      let l = length-map (code_of f c A.state) (aim 0 0) in
       back_code (mk (A.outer ++ A.code) (code_of f c A.state) false A.open_calls (segment_of f c A.state).state) (mk (A.outer ++ A.code) (map (aim 0 0) (code_of f c A.state)) false A.open_calls (segment_of f c A.state).state) refl refl (omega arith) (segment_fits f A q)
 
   lowered_fits : (f : Lowering) (A : Abs) → Fits (mk A.outer A.code A.wait A.open_calls (after_segment f c A.state)) → Fits (run f c (mk (A.outer ++ A.code) [] false A.open_calls A.state))
@@ -109,22 +95,15 @@ slot_small : {tree : List ℕ} {c : Counts} {h : Held} {A : Abs} (o : OpenCall) 
 slot_small {h = h} {A = A} o os eo lt f r =
     let t = r.tables in
     let is = A.state.pools.calls in
-    let op : OpenCalls h.1 is h.0.calls (o ∷ os) = subst (λ (l : List OpenCall). OpenCalls h.1 is h.0.calls l) eo t.the_open in
-    let d = op.1 in
-    let nb = op.0 in
-    let fi = d.first_is in
-    let ri = d.reserved_is in
-    let cc = t.call_count in
-    let ac = t.argument_count in
-    let fa = f.arguments in
-    let wi = call_within h.1 h.0.arguments CALLS 0 is o.number (omega arith) t.the_calls in
+    let op : OpenCalls h.1 is h.0.calls (o ∷ os) = subst (λ (l : List OpenCall). OpenCalls h.1 is h.0.calls l) eo t.calls_held.the_open in
+    let wi = call_within h.1 h.0.arguments CALLS 0 is o.number (omega arith) t.calls_held.the_calls in
     omega arith
 
 module _ {tree : List ℕ} {c : Counts} where
   pub argument_keep : {f : Lowering} {F : Step} → Does tree f c F → (A : Abs) (o : OpenCall) (os : List OpenCall) (slot base : ℕ) (h : Held) → A.open_calls ≡ o ∷ os → slot ≡ o.first + length o.starts → length o.starts < o.reserved → base ≡ length A.outer
       → Fits (mk A.outer A.code A.wait A.open_calls (after_segment f c A.state)) → Content tree c h A
       → Content tree c (L.argument_closed base A.wait slot (F (still T.opened h))) (mk A.outer A.code A.wait (grown (start_of f c A.state) o ∷ os) (after_segment f c A.state))
-  unfolding L.argument_closed flush
+  unfolding L.argument_closed flush word_of
   argument_keep {f} {F} d A o os slot base h eo es lt eb q r =
       let B = mk (A.outer ++ A.code) [] false A.open_calls A.state in
       let x = segment_of f c A.state in
@@ -134,12 +113,11 @@ module _ {tree : List ℕ} {c : Counts} where
       let r2 = d.keep B (still T.opened h) q2 r1 in
       let q3 = ended_fits c f A q in
       let g2 = L.instr 48 0 0 0 g1 in
-      let r3 = puts end end_word (A.outer ++ A.code) x.code A.open_calls x.state g1 q3 r2 in
+      let r3 = puts end refl (A.outer ++ A.code) x.code A.open_calls x.state g1 q3 r2 in
       let g3 : Held = (g2.0, T.breaks_resolved g2.0 0 0 0 g2.1) in
       let r4 = aim_at (A.outer ++ A.code) [] (code_of f c A.state) false A.open_calls x.state g2 0 0 0 refl q3 r3 in
       let r5 = close_keep A.outer A.code (code_of f c A.state) A.wait A.open_calls x.state base g3 eb q r4 in
       let v = g2.0.finished in
-      let cnt = r3.tables.the_finished_code.count in
       let pl = pasts_length x.state.pools.segments 0 in
       let ev : v ≡ start_of f c A.state = omega arith in
       let A5 = mk A.outer A.code A.wait A.open_calls (after_segment f c A.state) in
@@ -154,20 +132,15 @@ grown_by l o = record { number = o.number; first = o.first; reserved = o.reserve
 module _ (tree : List ℕ) (E : ℕ → Bool → Step) (C : ℕ → NameRef → Bool → Step) (Z : ℕ → Bool → Step) (c : Counts) where
   pub arguments_back : (xs : List Lowerings) (m q : ℕ) → Children tree E C Z xs m q → (A : Abs) (os : List OpenCall) → reserved_by os ≡ reserved_by A.open_calls → Fits (mk A.outer A.code A.wait os (arguments xs c A.state).state) → Fits A
   unfolding arguments
-  arguments_back [] zero q k A os e f = record { code = f.code; consts = f.consts; posts = f.posts; hashes = f.hashes; names = f.names; temps = f.temps; members = f.members; stores = f.stores; paths = f.paths; calls = f.calls; arguments = omega (arith, e, f.arguments); operands = f.operands; loops = f.loops; handlers = f.handlers }
-  arguments_back [] (suc m) q k A os e f = absurd k
-  arguments_back (a ∷ xs) zero q k A os e f = absurd k
+  arguments_back [] zero q k A os e f = search rules
   arguments_back (a ∷ xs) (suc m) q k A os e f = segment_back (k.0.expr_is false c) A (arguments_back xs m (next_at tree q) k.1 (mk A.outer A.code A.wait A.open_calls (after_segment (a.expr false) c A.state)) os e f)
+  arguments_back xs m q k A os e f = absurd k
 
   pub arguments_keep : (xs : List Lowerings) (m q : ℕ) → Children tree E C Z xs m q → (A : Abs) (o : OpenCall) (os : List OpenCall) (slot base : ℕ) (h : Held) → A.open_calls ≡ o ∷ os → slot ≡ o.first + length o.starts → length o.starts + length xs ≤ o.reserved → base ≡ length A.outer
       → Fits (mk A.outer A.code A.wait A.open_calls (arguments xs c A.state).state) → Content tree c h A
       → Content tree c (R.arguments tree E C Z base A.wait m q slot h) (mk A.outer A.code A.wait (grown_by (arguments xs c A.state).offsets o ∷ os) (arguments xs c A.state).state)
   unfolding arguments R.arguments
-  arguments_keep [] zero q k A o os slot base h eo es lt eb f r =
-      subst (λ (l : List ℕ). Content tree c h (mk A.outer A.code A.wait (record { number = o.number; first = o.first; reserved = o.reserved; starts = l } ∷ os) A.state)) (sym (append-nil o.starts))
-      (subst (λ (l : List OpenCall). Content tree c h (mk A.outer A.code A.wait l A.state)) eo r)
-  arguments_keep [] (suc m) q k A o os slot base h eo es lt eb f r = absurd k
-  arguments_keep (a ∷ xs) zero q k A o os slot base h eo es lt eb f r = absurd k
+  arguments_keep [] zero q k A o os slot base h eo es lt eb f r = search rules
   arguments_keep (a ∷ xs) (suc m) q k A o os slot base h eo es lt eb f r =
       let d = k.0.expr_is false c in
       let s1 = after_segment (a.expr false) c A.state in
@@ -180,7 +153,7 @@ module _ (tree : List ℕ) (E : ℕ → Bool → Step) (C : ℕ → NameRef → 
       let g = L.argument_closed base A.wait slot (E q false (still T.opened h)) in
       let r1 = argument_keep d A o os slot base h eo es (omega arith) eb f1 r in
       let A2 = mk A.outer A.code A.wait (grown v o ∷ os) s1 in
-      let l = length-append o.starts (v ∷ []) in
-      let f2 : Fits (mk A.outer A.code A.wait (grown v o ∷ os) (arguments xs c s1).state) = record { code = f.code; consts = f.consts; posts = f.posts; hashes = f.hashes; names = f.names; temps = f.temps; members = f.members; stores = f.stores; paths = f.paths; calls = f.calls; arguments = let e = ap reserved_by eo in omega (arith, e, f.arguments); operands = f.operands; loops = f.loops; handlers = f.handlers } in
+      let f2 : Fits (mk A.outer A.code A.wait (grown v o ∷ os) (arguments xs c s1).state) = let e = ap reserved_by eo in search rules in
       let r2 = arguments_keep xs m (next_at tree q) k.1 A2 (grown v o) os (after slot) base g refl ea (omega arith) eb f2 r1 in
       subst (λ (y : List ℕ). Content tree c (R.arguments tree E C Z base A.wait m (next_at tree q) (after slot) g) (mk A.outer A.code A.wait (record { number = o.number; first = o.first; reserved = o.reserved; starts = y } ∷ os) (arguments xs c s1).state)) (append_assoc o.starts (v ∷ []) (arguments xs c s1).offsets) r2
+  arguments_keep xs m q k A o os slot base h eo es lt eb f r = absurd k

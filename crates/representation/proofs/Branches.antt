@@ -1,10 +1,5 @@
 -- One law for each way of branching: a guard, two branches, breaks. Assumes nothing.
-use mathlib.Core.Path.{◌≡◌, refl, sym, subst, ◌∙◌}
-use mathlib.Core.Bool.{Bool, true, false, cond, true≢false}
-use mathlib.Core.List.{List, [], ◌∷◌, ◌++◌, append_assoc}
-use Prim.Native.Nat.{ℕ, suc}
-use native.Mathlib.Omega.{arith}
-use lib.ListN.{length-append}
+use Rattle.std.proofs.Common.{rules, ◌≡◌, refl, sym, subst, ◌∙◌, Bool, true, false, cond, List, [], ◌∷◌, ◌++◌, append_assoc, ℕ, suc, arith, length-append}
 use Rattle.program.specs.Instruction.{Instruction, Guard, guard, plain, const, push_const, halt}
 use Rattle.program.specs.Program.{Counts}
 use Rattle.program.specs.Image.{word_of, Word, word}
@@ -14,11 +9,11 @@ use Rattle.semantics.specs.State.{Item, instr, State, raise}
 use Rattle.semantics.specs.Pieces.{Lowered, emit, Lowering, flush, put, put_const, guarded, jumps}
 use Rattle.builder.specs.Fields.{set_waiting}
 use Rattle.builder.specs.Steps as W
-use Rattle.builder.specs.Steps.{Held}
+use Rattle.lowering.specs.Held.{Held}
 use Rattle.lowering.specs.Parts as L
 use Rattle.lowering.specs.Parts.{Step, front}
 use Rattle.representation.proofs.Represents.{front_of, back_of, OpenCall, Abs, Fits, Content, Moves, Does, run, on_state}
-use Rattle.representation.proofs.Laws.{waits}
+use Rattle.representation.proofs.Laws.{waits, ends}
 use Rattle.representation.proofs.OpenCode.{add_item, back_add, back_code, emits, flushed_code, flush_a, back_flush, flush_is, item_does, put_does, stopped}
 use Rattle.representation.proofs.Targets.{mk, land_at, Leads, lead_front, lead_back, guarding, guards, guard_place}
 
@@ -40,10 +35,6 @@ abbrev const_item : Bool → ℕ → Item
 const_item true k = instr (push_const k)
 const_item false k = instr (plain (const k))
 
-const_front : (k : ℕ) → (front_of (const_item true k) ≡ 0x0e00_0000) × (front_of (const_item false k) ≡ 0x0100_0000) × (back_of (const_item true k) ≡ k) × (back_of (const_item false k) ≡ k)
-unfolding word_of
-const_front k = (refl, refl, refl, refl)
-
 abbrev const_a : Bool → ℕ → Abs → Abs
 const_a b k A = record { outer = A.outer; code = A.code ++ (const_item b k ∷ []); wait = false; open_calls = A.open_calls; state = A.state }
 
@@ -55,27 +46,20 @@ const_same k c false A = refl
 const_run : (k : ℕ) (c : Counts) (b : Bool) (A : Abs) → A.wait ≡ b → const_a b k A ≡ run (put_const k) c A
 const_run k c b A e = subst (λ (w : Bool). const_a w k A ≡ run (put_const k) c A) e (const_same k c A.wait A)
 
-const_keep : {tree : List ℕ} {c : Counts} (k : ℕ) (w b : Bool) (A : Abs) (h : Held) → h.0.waiting ≡ w → w ≡ b → Fits (const_a b k A) → Content tree c h A
-    → Content tree c (cond w (W.emitted 0x0e00_0000 k (set_waiting false h.0, h.1)) (W.emitted 0x0100_0000 k h)) (const_a b k A)
-const_keep {tree} {c} k true true A h e q f r =
-    let m = (emits {tree = tree} {c = c} (const_item true k)).keep (waits false A) (set_waiting false h.0, h.1) f (stopped A h r) in
-    let z = const_front k in
-    rw (z.0, z.2) at m
-const_keep k true false A h e q f r = absurd (true≢false q)
-const_keep k false true A h e q f r = absurd (true≢false (sym q))
-const_keep {tree} {c} k false false A h e q f r =
-    let b = r.beside in
-    let r0 : Content tree c h (waits false A) = record { enough = r.enough; beside = record { waiting_is = e; stack_is = b.stack_is; loops_is = b.loops_is; handlers_is = b.handlers_is; stack_max = b.stack_max; loops_max = b.loops_max; handlers_max = b.handlers_max; stack_within = b.stack_within; loops_within = b.loops_within; handlers_within = b.handlers_within; bits_are = b.bits_are; float_loop_is = b.float_loop_is; number_is = b.number_is }; tables = r.tables } in
-    let m = (emits {tree = tree} {c = c} (const_item false k)).keep (waits false A) h f r0 in
-    let z = const_front k in
-    rw (z.1, z.3) at m
+const_keep : {tree : List ℕ} {c : Counts} (k : ℕ) (b : Bool) (A : Abs) (h : Held) → h.0.waiting ≡ b → Fits (const_a b k A) → Content tree c h A
+    → Content tree c (cond b (W.emitted 0x0e00_0000 k (set_waiting false h.0, h.1)) (W.emitted 0x0100_0000 k h)) (const_a b k A)
+unfolding word_of
+const_keep {tree} {c} k true A h e f r = (emits {tree = tree} {c = c} (const_item true k)).keep (waits false A) (set_waiting false h.0, h.1) f (stopped A h r)
+const_keep {tree} {c} k false A h e f r =
+    let r0 : Content tree c h (waits false A) = search rules in
+    (emits {tree = tree} {c = c} (const_item false k)).keep (waits false A) h f r0
 
 pub const_does : {tree : List ℕ} {c : Counts} (k : ℕ) → Does tree (put_const k) c (W.put_const k)
 unfolding W.put_const
-const_does {tree} {c} k = record {
-  back = λ A f. back_code A (const_a A.wait k A) refl refl (omega (arith, length-append A.code (const_item A.wait k ∷ []))) (subst (λ (B : Abs). Fits B) (sym (const_run k c A.wait A refl)) f);
-  keep = λ A h f r. subst (λ (B : Abs). Content tree c (W.put_const k h) B) (const_run k c A.wait A refl) (const_keep k h.0.waiting A.wait A h refl r.beside.waiting_is (subst (λ (B : Abs). Fits B) (sym (const_run k c A.wait A refl)) f) r);
-}
+const_does {tree} {c} k = ends _ (λ A. const_run k c A.wait A refl) (record {
+  back = λ A f. back_code A (const_a A.wait k A) refl refl (omega (arith, length-append A.code (const_item A.wait k ∷ []))) f;
+  keep = λ A h f r. let e = r.beside.waiting_is in subst (λ (w : Bool). Content tree c (cond w (W.emitted 0x0e00_0000 k (set_waiting false h.0, h.1)) (W.emitted 0x0100_0000 k h)) (const_a A.wait k A)) (sym e) (const_keep k A.wait A h e f r);
+})
 
 -- ---- a guard
 

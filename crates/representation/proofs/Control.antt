@@ -1,23 +1,15 @@
 -- Control and assignment: each rule is what its definition says. Assumes nothing.
-use Rattle.std.proofs.Common.{Option, None, Some}
+use Rattle.std.proofs.Common.{Option, None, Some, ◌≡◌, refl, sym, subst, Bool, true, false, cond, List, [], ◌∷◌, ℕ, zero, suc, ◌≤◌, arith, length}
 use Rattle.answers.specs.Refusals.{number_of_first}
 use Rattle.answers.specs.declared.refusals.Refusal.{Refusal}
-use Rattle.answers.specs.declared.refusals.Refusal.TheVariants.{SmallWorkspace, NoTreeImage, Damaged, TooDeep, UsesArrays, UsesResources, Failed, WriteToOtherMob, SmallOutput}
-use mathlib.Core.Path.{◌≡◌, refl, sym, subst}
-use mathlib.Core.Bool.{Bool, true, false, cond}
-use mathlib.Core.List.{List, [], ◌∷◌}
-use Prim.Native.Nat.{ℕ, zero, suc, ◌≤◌}
-use native.Mathlib.Omega.{arith}
-use lib.Dec.{eqb}
-use lib.ListN.{length}
-use borrow.Author.Tests.{eq-eqb, ne_eqb}
+use Rattle.answers.specs.declared.refusals.Refusal.TheVariants.{SmallWorkspace, Failed}
 use Rattle.numeric.specs.Post.{Post, fold}
 use Rattle.ast.specs.Header.{LEVELS}
 use Rattle.ast.specs.Node.{payload_at, op_at, offset_at, count_at, first_at, next_at, trees, tree_at}
 use Rattle.program.specs.Kinds.{HAS_LOOPS, HAS_ASSIGNMENT}
 use Rattle.program.specs.Instruction as N
 use Rattle.program.specs.Program.{Counts}
-use Rattle.program.specs.Image.{word_of, word}
+use Rattle.program.specs.Image.{word_of}
 use Rattle.semantics.specs.Run.{handler+, same, opens}
 use Rattle.ast.specs.Rules.{rule_at}
 use Rattle.semantics.specs.State as S
@@ -26,22 +18,18 @@ use Rattle.semantics.specs.Pieces.{Lowering, failing, flagged, with_name, with_t
 use Rattle.semantics.specs.Lowering as D
 use Rattle.semantics.specs.Lowering.{Lowerings}
 use Rattle.payload.specs.declared.NameRef.{NameRef}
-use Rattle.payload.specs.Payloads.{payload_ref_at}
 use Rattle.lowering.specs.Pools as B
-use Rattle.builder.specs.Steps as W
-use Rattle.builder.specs.Steps.{Held}
+use Rattle.lowering.specs.Held.{Held}
 use Rattle.lowering.specs.Leaves.{EachVariable}
-use Rattle.lowering.specs.Payloads as Q
 use Rattle.lowering.specs.Parts as L
 use Rattle.lowering.specs.Parts.{Step}
-use Rattle.builder.specs.Steps.{still}
 use Rattle.lowering.specs.Steps as Y
 use Rattle.lowering.specs.Rules as R
 use Rattle.representation.proofs.Represents.{Does}
 use Rattle.representation.proofs.Interning.{name_does, temp_does}
 use Rattle.representation.proofs.Laws.{thens, flagged_does, same_move, handler_move, handler_left_lem}
 use Rattle.representation.proofs.OpenCode.{failing_does}
-use Rattle.representation.proofs.Targets.{Leads}
+use Rattle.representation.proofs.Targets.{Leads, leads}
 use Rattle.representation.proofs.Forks.{fork_does}
 use Rattle.representation.proofs.Loops.{loop_does}
 use Rattle.representation.proofs.Each.{each_does}
@@ -50,34 +38,6 @@ use Rattle.representation.proofs.Sound.{Sound, node_sound, name_related, const_s
 use Rattle.representation.proofs.TargetRules.{target_same}
 use Rattle.representation.proofs.Stores.{store_does}
 use Rattle.representation.proofs.Kin.{one_rel, some_rel, pair_rel, two_rel, three_rel, one_left, two_left, nothing_move, constant_does, put_post_lem, post_behind, sets_move, not_sets_move}
-
-push_leads : Leads N.handler_push 35 0 0
-unfolding word_of
-push_leads = record { fields = λ t. refl }
-
-pop_leads : Leads N.handler_pop 36 0 0
-unfolding word_of
-pop_leads = record { fields = λ t. refl }
-
-falsy_leads : Leads (N.guard N.jump_if_falsy) 33 0 0
-unfolding word_of
-falsy_leads = record { fields = λ t. refl }
-
-jump_leads : Leads N.jump 32 0 0
-unfolding word_of
-jump_leads = record { fields = λ t. refl }
-
-var_leads : (k : ℕ) → Leads (N.each_next (N.each_next_var k)) 44 0 k
-unfolding word_of
-var_leads k = record { fields = λ t. refl }
-
-temp_leads : (k : ℕ) → Leads (N.each_next (N.each_next_temp k)) 45 0 k
-unfolding word_of
-temp_leads k = record { fields = λ t. refl }
-
-return_word : (q : ℕ) → word_of (N.return q) ≡ word 46 0 0 q
-unfolding word_of
-return_word q = refl
 
 -- the first of some children, which is there
 variable_is : (tree : List ℕ) (q n m : ℕ) → 1 ≤ m → Sound n tree q → (f : N.EachNext → Lowering) → D.variable (trees (tree_at n tree) tree m q) f ≡ D.each_of (payload_at tree q) f
@@ -96,9 +56,8 @@ module _ (tree : List ℕ) (E : ℕ → Bool → Step) (C : ℕ → NameRef → 
   statements_from_lem : (o : ℕ) {c : Counts} (xs : List Lowerings) (m q : ℕ) (l : Bool) → Children tree E C Z xs m q → Does tree (D.statements o xs l) c (R.statements_from tree E C Z o m q l)
   unfolding D.statements R.statements_from
   statements_from_lem o [] zero q l k = constant_does o
-  statements_from_lem o [] (suc m) q l k = absurd k
-  statements_from_lem o (a ∷ xs) zero q l k = absurd k
   statements_from_lem o {c} (a ∷ xs) (suc m) q l k = thens (k.0.statement_is l c) (statements_from_lem o xs m (next_at tree q) l k.1)
+  statements_from_lem o xs m q l k = absurd k
 
   -- what the code makes of a variable v that it found
   abbrev looping : ℕ → Bool → EachVariable × List ℕ → Held
@@ -106,27 +65,27 @@ module _ (tree : List ℕ) (E : ℕ → Bool → Step) (C : ℕ → NameRef → 
 
   module _ (p : ℕ) (xs : List Lowerings) (k : Children tree E C Z xs (count_at tree p) (first_at tree p)) {c : Counts} (l : Bool) where
     pub coalesce_does : Does tree (P.two xs (failing 7) λ a b. fork N.handler_push N.handler_pop handler+ (a.expr l) (b.expr l) ⨾ post_instruction (L.post_bits tree p)) c (R.coalesce tree E C Z p l)
-    unfolding R.coalesce
-    coalesce_does = two_rel tree E C Z c (failing 7) (failing_does Failed) (λ a b. fork N.handler_push N.handler_pop handler+ (a.expr l) (b.expr l) ⨾ post_instruction (L.post_bits tree p)) xs (count_at tree p) (first_at tree p) k
-        (λ a b ca cb. thens (fork_does N.handler_push N.handler_pop handler+ push_leads pop_leads handler_move (ca.expr_is l (handler+ c)) handler_left_lem (cb.expr_is l c)) (post_behind p))
+    unfolding R.coalesce word_of
+    coalesce_does = two_rel tree E C Z c _ (failing_does Failed) _ xs (count_at tree p) (first_at tree p) k
+        (λ a b ca cb. thens (fork_does N.handler_push N.handler_pop handler+ (leads N.handler_push 35 0 0 (λ t. refl)) (leads N.handler_pop 36 0 0 (λ t. refl)) handler_move (ca.expr_is l (handler+ c)) handler_left_lem (cb.expr_is l c)) (post_behind p))
 
     pub conditional_does : Does tree (P.some xs (failing 7) λ a ys. P.some ys (failing 7) λ b zs. a.expr l ⨾ fork (N.guard N.jump_if_falsy) N.jump same (b.expr l) (P.one zs (constant 0) λ c. c.expr l) ⨾ post_instruction (L.post_bits tree p)) c (R.conditional tree E C Z p l)
-    unfolding R.conditional R.alternative
-    conditional_does = pair_rel tree E C Z c (failing 7) (failing_does Failed) (λ a b zs. a.expr l ⨾ fork (N.guard N.jump_if_falsy) N.jump same (b.expr l) (P.one zs (constant 0) λ c. c.expr l) ⨾ post_instruction (L.post_bits tree p)) xs (count_at tree p) (first_at tree p) k
-        (λ a b zs j e ca cb ks. thens (ca.expr_is l c) (thens (fork_does (N.guard N.jump_if_falsy) N.jump same falsy_leads jump_leads same_move (cb.expr_is l c) nothing_move
-        (subst (λ (t : Bool). Does tree (P.one zs (constant 0) λ c. c.expr l) c (λ h. cond t (B.constant 0 h) (E (next_at tree (next_at tree (first_at tree p))) l h))) (two_left (count_at tree p) j e) (one_rel tree E C Z c (constant 0) (constant_does 0) (λ c. c.expr l) zs j (next_at tree (next_at tree (first_at tree p))) ks (λ a cc. cc.expr_is l c)))) (post_behind p)))
+    unfolding R.conditional R.alternative word_of
+    conditional_does = pair_rel tree E C Z c _ (failing_does Failed) _ xs (count_at tree p) (first_at tree p) k
+        (λ a b zs j e ca cb ks. thens (ca.expr_is l c) (thens (fork_does (N.guard N.jump_if_falsy) N.jump same (leads (N.guard N.jump_if_falsy) 33 0 0 (λ t. refl)) (leads N.jump 32 0 0 (λ t. refl)) same_move (cb.expr_is l c) nothing_move
+        (subst (λ (t : Bool). Does tree (P.one zs (constant 0) λ c. c.expr l) c (λ h. cond t (B.constant 0 h) (E (next_at tree (next_at tree (first_at tree p))) l h))) (two_left (count_at tree p) j e) (one_rel tree E C Z c _ (constant_does 0) _ zs j (next_at tree (next_at tree (first_at tree p))) ks (λ a cc. cc.expr_is l c)))) (post_behind p)))
 
     pub statements_does : Does tree (D.statements (offset_at tree p) xs l) c (R.statements tree E C Z p l)
     unfolding R.statements
     statements_does = statements_from_lem (offset_at tree p) xs (count_at tree p) (first_at tree p) l k
 
     pub return_does : Does tree (D.returning (L.post_bits tree p) xs l) c (R.ret tree E C Z p l)
-    unfolding D.returning R.ret
-    return_does = thens (one_rel tree E C Z c (constant 0) (constant_does 0) (λ a. a.expr l) xs (count_at tree p) (first_at tree p) k (λ a ca. ca.expr_is l c)) (put_post_lem p (λ q. N.return q) 46 0 0 return_word)
+    unfolding D.returning R.ret word_of
+    return_does = thens (one_rel tree E C Z c _ (constant_does 0) _ xs (count_at tree p) (first_at tree p) k (λ a ca. ca.expr_is l c)) (put_post_lem p (λ q. N.return q) 46 0 0 (λ q. refl))
 
     pub loop_rule : Does tree (flagged (S.sets HAS_LOOPS) (P.two xs (failing 7) λ a b. a.expr l ⨾ counted_loop (b.expr true) ⨾ constant (fold (L.post_bits tree p) 0))) c (R.counted_loop tree E C Z p l)
     unfolding R.counted_loop
-    loop_rule = flagged_does (S.sets HAS_LOOPS) (Y.flagged 64) (sets_move 64) (two_rel tree E C Z c (failing 7) (failing_does Failed) (λ a b. a.expr l ⨾ counted_loop (b.expr true) ⨾ constant (fold (L.post_bits tree p) 0)) xs (count_at tree p) (first_at tree p) k
+    loop_rule = flagged_does (S.sets HAS_LOOPS) (Y.flagged 64) (sets_move 64) (two_rel tree E C Z c _ (failing_does Failed) _ xs (count_at tree p) (first_at tree p) k
         (λ a b ca cb. thens (ca.expr_is l c) (thens (loop_does (cb.expr_is true (opens true c))) (constant_does (fold (L.post_bits tree p) 0)))))
 
     -- behind the variable
@@ -137,22 +96,22 @@ module _ (tree : List ℕ) (E : ℕ → Bool → Step) (C : ℕ → NameRef → 
 
     variable_does : (n : ℕ) → Sound n tree (first_at tree p) → length tree ≤ 6144 → {b e : Lowerings} → Child tree E C Z b (next_at tree (first_at tree p)) → Child tree E C Z e (next_at tree (next_at tree (first_at tree p)))
         → Does tree (D.each_of (payload_at tree (first_at tree p)) λ i. b.expr l ⨾ eached i (e.expr true) ⨾ constant (fold (L.post_bits tree p) 0)) c (λ h. looping p l (R.variable tree (first_at tree p) h))
-    unfolding D.each_of R.variable R.variable_temp L.each_next
+    unfolding D.each_of R.variable R.variable_temp L.each_next word_of
     variable_does n sound short {b} {e} cb ce =
         let q = first_at tree p in
         let f : N.EachNext → Lowering = λ i. b.expr l ⨾ eached i (e.expr true) ⨾ constant (fold (L.post_bits tree p) 0) in
         name_related tree (λ (d : Lowering) (G : Held → EachVariable × List ℕ). Does tree d c (λ h. looping p l (G h))) 4 q (node_sound n tree q sound) short (λ n. with_name n λ k. f (N.each_next_var k))
         (name_related tree (λ (d : Lowering) (G : Held → EachVariable × List ℕ). Does tree d c (λ h. looping p l (G h))) 5 q (node_sound n tree q sound) short (λ n. with_temp n λ k. f (N.each_next_temp k))
         (failing_does Failed)
-        (λ r t. temp_does r t (λ v. each_body (N.each_next_temp v) 45 v (temp_leads v) cb ce)))
-        (λ r t. name_does r t (λ v. each_body (N.each_next_var v) 44 v (var_leads v) cb ce))
+        (λ r t. temp_does r t (λ v. each_body (N.each_next_temp v) 45 v (leads (N.each_next (N.each_next_temp v)) 45 0 v (λ t. refl)) cb ce)))
+        (λ r t. name_does r t (λ v. each_body (N.each_next_var v) 44 v (leads (N.each_next (N.each_next_var v)) 44 0 v (λ t. refl)) cb ce))
 
     -- n are the children's levels
     pub each_rule : (n : ℕ) → (1 ≤ count_at tree p → Sound n tree (first_at tree p)) → length tree ≤ 6144
         → Does tree (flagged (λ f. S.not_float_only (S.sets HAS_LOOPS f)) (P.three xs (failing 7) λ a b c. D.variable (trees (tree_at n tree) tree (count_at tree p) (first_at tree p)) λ i. b.expr l ⨾ eached i (c.expr true) ⨾ constant (fold (L.post_bits tree p) 0))) c (R.for_each tree E C Z p l)
     unfolding R.for_each
     each_rule n sound short = flagged_does (λ f. S.not_float_only (S.sets HAS_LOOPS f)) (λ s. Y.not_float_only (Y.flagged 64 s)) (not_sets_move 64)
-        (three_rel tree E C Z c (failing 7) (failing_does Failed) (λ a b c. D.variable (trees (tree_at n tree) tree (count_at tree p) (first_at tree p)) λ i. b.expr l ⨾ eached i (c.expr true) ⨾ constant (fold (L.post_bits tree p) 0)) xs (count_at tree p) (first_at tree p) k
+        (three_rel tree E C Z c _ (failing_does Failed) _ xs (count_at tree p) (first_at tree p) k
         (λ a b e m ca cb ce. subst (λ (f : Lowering). Does tree f c (λ h. looping p l (R.variable tree (first_at tree p) h))) (sym (first_variable n (count_at tree p) (omega arith) (sound (omega arith)) (λ i. b.expr l ⨾ eached i (e.expr true) ⨾ constant (fold (L.post_bits tree p) 0)))) (variable_does n (sound (omega arith)) short cb ce)))
       where
         first_variable : (n m : ℕ) → 1 ≤ m → Sound n tree (first_at tree p) → (f : N.EachNext → Lowering) → D.variable (trees (tree_at n tree) tree m (first_at tree p)) f ≡ D.each_of (payload_at tree (first_at tree p)) f
@@ -161,32 +120,25 @@ module _ (tree : List ℕ) (E : ℕ → Bool → Step) (C : ℕ → NameRef → 
     -- the value: the second child, or the node's constant
     value_does : (ys : List Lowerings) (j : ℕ) → count_at tree p ≡ suc j → Children tree E C Z ys j (next_at tree (first_at tree p)) → Does tree (P.one ys (constant (P.const_of (payload_at tree p))) λ b. b.expr l) c (R.value tree E C Z p (first_at tree p) l)
     unfolding R.value
-    value_does ys j e ks = subst (λ (t : Bool). Does tree (P.one ys (constant (P.const_of (payload_at tree p))) λ b. b.expr l) c (λ h. cond t (B.constant (Q.const_of (payload_ref_at tree p)) h) (E (next_at tree (first_at tree p)) l h))) (one_left (count_at tree p) j e)
-        (one_rel tree E C Z c (constant (P.const_of (payload_at tree p))) (subst (λ (v : ℕ). Does tree (constant (P.const_of (payload_at tree p))) c (B.constant v)) (const_same tree p) (constant_does (P.const_of (payload_at tree p)))) (λ b. b.expr l) ys j (next_at tree (first_at tree p)) ks (λ b cb. cb.expr_is l c))
+    value_does ys j e ks = rw (← one_left (count_at tree p) j e)
+        (one_rel tree E C Z c _ (rw (← const_same tree p) (constant_does (P.const_of (payload_at tree p)))) _ ys j (next_at tree (first_at tree p)) ks (λ b cb. cb.expr_is l c))
 
     unless_does : (r : ℕ) (met : Option Refusal) → r ≡ number_of_first met → {f : Lowering} {F : Step} → Does tree f c F → Does tree (D.unless r f) c (L.unless_refused met F)
     unfolding D.unless
-    unless_does r met e {f} {F} d = subst (λ (v : ℕ). Does tree (D.unless v f) c (L.unless_refused met F)) (sym e) (go met)
+    unless_does r met e {f} {F} d = rw e (go met)
       where
         go : (met : Option Refusal) → Does tree (D.unless (number_of_first met) f) c (L.unless_refused met F)
         go None = d
         go (Some SmallWorkspace) = failing_does SmallWorkspace
-        go (Some NoTreeImage) = failing_does NoTreeImage
-        go (Some Damaged) = failing_does Damaged
-        go (Some TooDeep) = failing_does TooDeep
-        go (Some UsesArrays) = failing_does UsesArrays
-        go (Some UsesResources) = failing_does UsesResources
-        go (Some Failed) = failing_does Failed
-        go (Some WriteToOtherMob) = failing_does WriteToOtherMob
-        go (Some SmallOutput) = failing_does SmallOutput
+        go (Some why) = failing_does why
 
     pub assign_rule : (n : ℕ) → n ≤ LEVELS → (1 ≤ count_at tree p → Sound n tree (first_at tree p)) → length tree ≤ 6144
         → Does tree (P.some xs (failing 7) λ a ys. D.target (trees (tree_at n tree) tree (count_at tree p) (first_at tree p)) (P.one ys (constant (P.const_of (payload_at tree p))) λ b. b.expr l) (L.post_bits tree p)) c (R.assignment tree E C Z n p l)
     unfolding R.assignment
-    assign_rule n le sound short = some_rel tree E C Z c (failing 7) (failing_does Failed) (λ a ys. D.target (trees (tree_at n tree) tree (count_at tree p) (first_at tree p)) (P.one ys (constant (P.const_of (payload_at tree p))) λ b. b.expr l) (L.post_bits tree p)) xs (count_at tree p) (first_at tree p) k
+    assign_rule n le sound short = some_rel tree E C Z c _ (failing_does Failed) _ xs (count_at tree p) (first_at tree p) k
         (λ a ys j e ca ks.
         let q = first_at tree p in
         let v : Lowering = P.one ys (constant (P.const_of (payload_at tree p))) λ b. b.expr l in
-        subst (λ (f : Lowering). Does tree f c (L.unless_refused (R.target_refusal tree q) (λ h. R.store tree n q p (R.value tree E C Z p q l (still (Y.flagged 32) h))))) (sym (target_is tree q n (count_at tree p) (omega arith) (sound (omega arith)) v (L.post_bits tree p)))
+        rw (target_is tree q n (count_at tree p) (omega arith) (sound (omega arith)) v (L.post_bits tree p))
         (unless_does (D.target_refusal (rule_at (op_at tree q)) (payload_at tree q)) (R.target_refusal tree q) (target_same tree q)
         (flagged_does (S.sets HAS_ASSIGNMENT) (Y.flagged 32) (sets_move 32) (thens (value_does ys j e ks) (store_does n q p le (sound (omega arith)) short)))))

@@ -1,12 +1,9 @@
 -- ForEach: EachBegin, EachNext, the body with its Breaks and Continues resolved, the Jump back, LoopEnd. Assumes nothing.
-use mathlib.Core.Path.{◌≡◌, sym, ap, subst, ◌∙◌}
-use mathlib.Core.Bool.{false}
-use mathlib.Core.List.{List, [], ◌∷◌, ◌++◌, map, append_assoc}
-use Prim.Native.Nat.{ℕ, suc, ◌+◌}
-use native.Mathlib.Omega.{arith}
-use lib.ListN.{length, length-append}
+use Rattle.std.proofs.Common.{◌≡◌, refl, sym, ap, subst, ◌∙◌, false, List, [], ◌∷◌, ◌++◌, map, append_assoc, ℕ, suc, ◌+◌, arith, length, length-append}
+use lib.ListN.{length-map}
 use Rattle.program.specs.Instruction.{EachNext, loop_end, each_begin, each_next, jump}
 use Rattle.program.specs.Program.{Counts}
+use Rattle.program.specs.Image.{word_of}
 use Rattle.semantics.specs.Positions.{past}
 use Rattle.semantics.proofs.Positions.{past_append, past_length, past_map}
 use Rattle.semantics.specs.Run.{opens}
@@ -14,7 +11,7 @@ use Rattle.semantics.specs.State.{Item, instr, State, raise}
 use Rattle.semantics.specs.Pieces.{Lowered, emit, Lowering, aim, eached}
 use Rattle.lowering.specs.Pools.{after}
 use Rattle.builder.specs.Segments as T
-use Rattle.builder.specs.Steps.{Held}
+use Rattle.lowering.specs.Held.{Held}
 use Rattle.lowering.specs.Parts as L
 use Rattle.lowering.specs.Parts.{Step}
 use Rattle.builder.specs.Steps.{still}
@@ -22,8 +19,8 @@ use Rattle.lowering.specs.Steps as Y
 use Rattle.representation.proofs.Represents.{OpenCall, Abs, Fits, Content, Does, run}
 use Rattle.representation.proofs.Laws.{each_move, each_left}
 use Rattle.representation.proofs.OpenCode.{add_item, back_add, flushed_code, flush_a, back_flush, flush_is}
-use Rattle.representation.proofs.Targets.{mk, placed, land_at, aim_at, length_aimed, Leads, lead_front, lead_back, guarding, guards, guard_place}
-use Rattle.representation.proofs.Loops.{each_leads, puts, end_word, jump_word, shorter}
+use Rattle.representation.proofs.Targets.{mk, placed, land_at, aim_at, Leads, lead_front, lead_back, guarding, guards, guard_place}
+use Rattle.representation.proofs.Loops.{each_leads, puts, shorter}
 
 module _ (o k : List Item) (os : List OpenCall) (st : State) (i : EachNext) (f : Lowering) (c : Counts) where
   abbrev u : Counts
@@ -128,7 +125,7 @@ module _ (o k : List Item) (os : List OpenCall) (st : State) (i : EachNext) (f :
       let a = length-append (H2 ++ body) (instr (jump (suc n)) ∷ []) in
       let b = length-append H2 body in
       let d = length-append H2 x.code in
-      let e = length_aimed (suc n) (suc back) x.code in
+      let e = length-map x.code (aim (suc n) (suc back)) in
       shorter o (H2 ++ x.code) J os x.state (omega arith) (fit_j0 q)
 
 module _ {tree : List ℕ} (c : Counts) where
@@ -136,7 +133,7 @@ module _ {tree : List ℕ} (c : Counts) where
       → Fits (mk o (final o k os st i f c) false os (x o k os st i f c).state)
       → Content tree (opens false c) h (mk o (H2 o k os st i f c ++ (x o k os st i f c).code) false os (x o k os st i f c).state)
       → Content tree (opens false c) (L.each_closed at to h) (mk o (final o k os st i f c) false os (x o k os st i f c).state)
-  unfolding L.each_closed
+  unfolding L.each_closed word_of
   each_keep o k os st i f ei at to h ea et q r =
       let X = x o k os st i f c in
       let s = X.state in
@@ -157,13 +154,13 @@ module _ {tree : List ℕ} (c : Counts) where
       subst (λ (m : ℕ). Content tree (opens false c) (h.0, T.breaks_resolved h.0 (after to) m (pl + 1) h.1) (mk o (h2 ++ bd) false os s)) (sym et)
       (subst (λ (m : ℕ). Content tree (opens false c) (h.0, T.breaks_resolved h.0 (after to) (suc (past k 0)) m h.1) (mk o (h2 ++ bd) false os s)) (sym e4)
       (aim_at o h2 X.code false os s h (after to) (suc (past k 0)) (suc bk) (omega (arith, a2, et, pk, fc, l2, l1, l0)) (fit_3 o k os st i f c q) r)) in
-      let r5 = puts (jump (suc (past k 0))) (jump_word to (suc (past k 0)) et) o (h2 ++ bd) os s g (fit_j0 o k os st i f c q) r4 in
+      let r5 = puts (jump (suc (past k 0))) (rw et) o (h2 ++ bd) os s g (fit_j0 o k os st i f c q) r4 in
       let w5 = L.instr 32 0 to 0 g in
       let j = j_is o k os st i f c in
       let r6 = land_at o (H1 o k os st i f c) (bd ++ (instr (jump (suc (past k 0))) ∷ [])) (instr (each_next i 0)) (instr (each_next i (suc bk))) false os s w5 (lead_front ei (suc bk) ∙ sym (lead_front ei 0)) (lead_back ei (suc bk) ∙ sym (at_j o k os st i f c)) (subst (λ (l : List Item). Fits (mk o l false os s)) j (fit_j0 o k os st i f c q)) (subst (λ (l : List Item). Content tree (opens false c) w5 (mk o l false os s)) j r5) in
       let r6' = subst (λ (m : ℕ). Content tree (opens false c) (L.place_target m w5) (mk o (J' o k os st i f c) false os s)) (at_h1 o k os st i f c ∙ sym et) r6 in
       let w6 = L.place_target to w5 in
-      let r7 = puts loop_end end_word o (J' o k os st i f c) os s w6 (fit_z o k os st i f c q) r6' in
+      let r7 = puts loop_end refl o (J' o k os st i f c) os s w6 (fit_z o k os st i f c q) r6' in
       let w7 = L.instr 42 0 0 0 w6 in
       let z = z_is o k os st i f c in
       let r8 = land_at o k (instr (each_next i (suc bk)) ∷ tail o k os st i f c) (instr (each_begin 0)) (instr (each_begin (suc (suc bk)))) false os s w7 (lead_front each_leads (suc (suc bk)) ∙ sym (lead_front each_leads 0)) (lead_back each_leads (suc (suc bk)) ∙ sym (at_z o k os st i f c)) (subst (λ (l : List Item). Fits (mk o l false os s)) z (fit_z o k os st i f c q)) (subst (λ (l : List Item). Content tree (opens false c) w7 (mk o l false os s)) z r7) in

@@ -1,10 +1,5 @@
 -- Two branches, one of which is taken: a jump to the second, the first, a jump behind the second, the second. Assumes nothing.
-use mathlib.Core.Path.{◌≡◌, refl, sym, ap, subst, ◌∙◌}
-use mathlib.Core.Bool.{false}
-use mathlib.Core.List.{List, [], ◌∷◌, ◌++◌, append_assoc}
-use Prim.Native.Nat.{ℕ, suc}
-use native.Mathlib.Omega.{arith}
-use lib.ListN.{length-append}
+use Rattle.std.proofs.Common.{◌≡◌, refl, sym, ap, subst, ◌∙◌, false, List, [], ◌∷◌, ◌++◌, append_assoc, ℕ, suc, arith, length-append}
 use Rattle.program.specs.Instruction.{Instruction}
 use Rattle.program.specs.Program.{Counts}
 use Rattle.semantics.specs.Positions.{past}

@@ -1,12 +1,7 @@
 -- The builder's pools: what interning makes of the words is what the lowering's definition makes of its pools, and a lowering that goes on with the entry's index. Assumes nothing.
-use mathlib.Core.Path.{◌≡◌, refl, sym, ap, subst}
-use mathlib.Core.Bool.{Bool, true, false, cond}
-use mathlib.Core.List.{List, [], ◌∷◌}
-use Prim.Native.Nat.{ℕ, suc, ◌+◌, ◌*◌, ◌≤◌, ◌<◌}
-use native.Mathlib.Omega.{arith}
+use Rattle.std.proofs.Common.{rules, ◌≡◌, refl, sym, subst, Bool, true, false, cond, List, [], ◌∷◌, ℕ, suc, ◌+◌, ◌*◌, ◌≤◌, ◌<◌, arith, length}
 use native.Mathlib.Decide.{ℕ_discrete}
 use lib.Bits.{bit_or}
-use lib.ListN.{length}
 use Rattle.ast.specs.Tree.{Name}
 use Rattle.numeric.specs.Post.{Post, is_identity}
 use Rattle.program.specs.Kinds.{USES_TEMPS}
@@ -15,25 +10,23 @@ use Rattle.payload.specs.declared.NameRef.{NameRef}
 use Rattle.payload.specs.Payloads.{named}
 use Rattle.semantics.specs.Positions.{slot, intern, pair_discrete}
 use Rattle.semantics.specs.State.{MemberRead, Pools, State, set_pools, set_consts, set_posts, set_hashes, set_names, set_temps, set_members, set_flags, sets}
-use Rattle.semantics.specs.Pieces.{Lowering, itself, hash_key, read_key, post_key, post_if, with_const, with_hash, with_name, with_temp, with_member, with_post}
+use Rattle.semantics.specs.Pieces.{Lowering, itself, hash_key, post_key, post_if, with_const, with_hash, with_name, with_temp, with_member, with_post}
 use Rattle.workspace.specs.Layout.{CONSTS, POSTS, HASHES, NAMES, TEMPS, MEMBERS, STORES}
 use Rattle.card.specs.Holds.{PostIs, HashIs, NameIs}
-use Rattle.lowering.specs.Search.{word_hit, pair_hit, name_hit, member_hit}
+use Rattle.lowering.specs.Search.{pair_hit}
 use Rattle.lowering.specs.Regions.{interned_index}
-use Rattle.lowering.proofs.Slots.{same}
-use Rattle.builder.specs.declared.State as S
+use Rattle.lowering.specs.Held as S
 use Rattle.builder.specs.Fields as F
-use Rattle.builder.specs.Steps.{Held}
+use Rattle.lowering.specs.Held.{Held}
 use Rattle.lowering.specs.Pools as B
-use Rattle.workspace.specs.Words.{high, low}
 use Rattle.lowering.specs.Pools.{Found, found, text_place, after}
 use Rattle.lowering.specs.Parts as L
 use Rattle.lowering.specs.Parts.{Step, going}
 use Rattle.representation.proofs.Rows.{Local, Apart}
-use Rattle.representation.proofs.Represents.{WordAt, MemberAt, Abs, Fits, Table, Content, Does, Enters, run, on_state}
-use Rattle.representation.proofs.Keeps.{agree_below, agree_above, word_local, post_local, hash_local, name_local, member_local, consts_keep, posts_keep, hashes_keep, names_keep, temps_keep, members_keep, pools_changed}
+use Rattle.representation.proofs.Represents.{PoolsHeld, WordAt, MemberAt, Abs, Fits, Table, Content, Does, Enters, run, on_state}
+use Rattle.representation.proofs.Keeps.{agree_below, agree_above, word_local, post_local, hash_local, name_local, member_local, table_keep, pools_changed}
 use Rattle.representation.proofs.Pools.{length_intern, slot_within, apart_wider, interned_apart, table_slot, table_interned}
-use Rattle.representation.proofs.Entries.{word_decides, hash_decides, name_decides, post_decides, member_decides, new_word, new_hash, new_post, new_name, new_member, Stored, TextOf, read_of}
+use Rattle.representation.proofs.Entries.{Keyed, word_keyed, hash_keyed, post_keyed, name_keyed, member_keyed, TextOf, read_of}
 
 -- ---- the law
 
@@ -54,55 +47,18 @@ pooled cs ps hs ns ts ms s = set_pools (record { consts = cs; posts = ps; hashes
 abbrev counted : ℕ → ℕ → ℕ → ℕ → ℕ → ℕ → S.State → S.State
 counted n1 n2 n3 n4 n5 n6 s = F.set_consts n1 (F.set_posts n2 (F.set_hashes n3 (F.set_names n4 (F.set_temps n5 (F.set_members n6 s)))))
 
-same_size : {X : Type 0} (xs : List X) → length xs ≤ length xs
-same_size xs = omega arith
-
 module _ (A : Abs) where
-  fits_pools : (cs : List ℕ) (ps : List Post) (hs : List ℕ) (ns : List Name) (ts : List ℕ) (ms : List MemberRead) → Fits (on_state (pooled cs ps hs ns ts ms) A) →
-      length A.state.pools.consts ≤ length cs → length A.state.pools.posts ≤ length ps → length A.state.pools.hashes ≤ length hs → length A.state.pools.names ≤ length ns → length A.state.pools.temps ≤ length ts → length A.state.pools.members ≤ length ms → Fits A
-  fits_pools cs ps hs ns ts ms f l1 l2 l3 l4 l5 l6 = record {
-    code = f.code;
-    consts = let x = f.consts in omega arith;
-    posts = let x = f.posts in omega arith;
-    hashes = let x = f.hashes in omega arith;
-    names = let x = f.names in omega arith;
-    temps = let x = f.temps in omega arith;
-    members = let x = f.members in omega arith;
-    stores = f.stores;
-    paths = f.paths;
-    calls = f.calls;
-    arguments = f.arguments;
-    operands = f.operands;
-    loops = f.loops;
-    handlers = f.handlers;
-  }
-
   content_pools : (tree : List ℕ) (c : Counts) (h : Held) → Fits A → Content tree c h A → (vs : List ℕ) → Apart h.1 vs CONSTS STORES →
       {n1 n2 n3 n4 n5 n6 : ℕ} {cs : List ℕ} {ps : List Post} {hs : List ℕ} {ns : List Name} {ts : List ℕ} {ms : List MemberRead} →
-      Table 1 (WordAt vs) CONSTS n1 cs → Table 2 (PostIs vs) POSTS n2 ps → Table 2 (HashIs vs) HASHES n3 hs → Table 3 (NameIs tree vs) NAMES n4 ns → Table 1 (WordAt vs) TEMPS n5 ts → Table 6 (MemberAt tree vs) MEMBERS n6 ms →
-      Content tree c (counted n1 n2 n3 n4 n5 n6 h.0, vs) (on_state (pooled cs ps hs ns ts ms) A)
-  content_pools tree c h f x vs a t1 t2 t3 t4 t5 t6 =
-      let q = a.same_length in
-      let e = x.enough in
+      PoolsHeld tree vs n1 n2 n3 n4 n5 n6 cs ps hs ns ts ms → Content tree c (counted n1 n2 n3 n4 n5 n6 h.0, vs) (on_state (pooled cs ps hs ns ts ms) A)
+  content_pools tree c h f x vs a t =
       record {
         enough = omega arith;
         beside = x.beside;
-        tables = pools_changed tree h.1 vs A f a x.tables t1 t2 t3 t4 t5 t6;
+        tables = pools_changed tree h.1 vs A f a x.tables t;
       }
 
--- ---- each pool: the state after it, and the entry's index
-
-abbrev pub const_state : ℕ → State → State
-const_state v s = set_pools (set_consts (intern itself ℕ_discrete v s.pools.consts) s.pools) s
-
-abbrev pub const_index : ℕ → State → ℕ
-const_index v s = slot itself ℕ_discrete v 0 s.pools.consts
-
-abbrev pub hash_state : ℕ → State → State
-hash_state v s = set_pools (set_hashes (intern itself ℕ_discrete v s.pools.hashes) s.pools) s
-
-abbrev pub hash_index : ℕ → State → ℕ
-hash_index v s = slot itself ℕ_discrete v 0 s.pools.hashes
+-- ---- names, slots of temps and posts: the state after an entry is interned, and the entry's index
 
 abbrev pub name_state : Name → State → State
 name_state v s = set_pools (set_names (intern hash_key ℕ_discrete v s.pools.names) s.pools) s
@@ -116,24 +72,11 @@ slot_state v s = set_pools (set_temps (intern itself ℕ_discrete v s.pools.temp
 abbrev pub slot_index : ℕ → State → ℕ
 slot_index v s = slot itself ℕ_discrete v 0 s.pools.temps
 
-abbrev pub member_state : MemberRead → State → State
-member_state v s = set_pools (set_members (intern read_key pair_discrete v s.pools.members) s.pools) s
-
-abbrev pub member_index : MemberRead → State → ℕ
-member_index v s = slot read_key pair_discrete v 0 s.pools.members
-
 abbrev pub pooled_state : Post → State → State
 pooled_state v s = set_pools (set_posts (intern post_key pair_discrete v s.pools.posts) s.pools) s
 
 abbrev pub pooled_index : Post → State → ℕ
 pooled_index v s = slot post_key pair_discrete v 0 s.pools.posts
-
--- the identity is post 0, and is not looked up
-abbrev pub post_state : Post → State → State
-post_state v s = cond (is_identity v) s (pooled_state v s)
-
-abbrev pub post_index : Post → State → ℕ
-post_index v s = cond (is_identity v) 0 (suc (pooled_index v s))
 
 -- a temp: USES_TEMPS, its name, then its slot
 abbrev pub uses_temps : State → State
@@ -155,11 +98,6 @@ pub record Region (tree : List ℕ) {X : Type 0} (w : ℕ) (Q : List ℕ → ℕ
   -- only its words have changed, and they are a new table
   pub changed : (c : Counts) (A : Abs) (h : Held) (vs : List ℕ) (n : ℕ) (xs : List X) → Fits A → Content tree c h A → Apart h.1 vs o e → Table w (Q vs) o n xs → Content tree c (set_count n h.0, vs) (on_state (λ s. set_pools (set_pool xs s.pools) s) A)
 
--- an entry with its key: its words give the claim on an entry, and the search decides the key
-pub record Keyed {X K : Type 0} (key : X → K) (dec : (a b : K) → Dec (a ≡ b)) (v : X) (w : ℕ) (Q : List ℕ → ℕ → X → Type 0) (o : ℕ) (entry : List ℕ) (hit : List ℕ → ℕ → Bool) : Type 0 where
-  pub stored : (us : List ℕ) (p : ℕ) → Stored us p entry → Q us p v
-  pub decides : (ws : List ℕ) (i : ℕ) (x : X) → Q ws (o + w * i) x → hit ws i ≡ same (dec (key x) (key v))
-
 -- the entry is interned in the region
 pub region_enters : {tree : List ℕ} {X : Type 0} {w : ℕ} {Q : List ℕ → ℕ → X → Type 0} {o e room : ℕ} {pool : Pools → List X} {set_pool : List X → Pools → Pools} {count : S.State → ℕ} {set_count : ℕ → S.State → S.State} → Region tree w Q o e room pool set_pool count set_count →
     {K : Type 0} {key : X → K} {dec : (a b : K) → Dec (a ≡ b)} {v : X} {entry : List ℕ} {hit : List ℕ → ℕ → Bool} → Keyed key dec v w Q o entry hit →
@@ -172,7 +110,6 @@ region_enters {tree} {X} {w} {Q} {o} {e} {room} {pool} {set_pool} {count} {set_c
   keep = λ c A h f x.
       let n = count h.0 in
       let k = interned_index (hit h.1) n in
-      let len = x.enough in
       let p = place n in
       R.changed c A h _ _ _ (back A f) x
       (interned_apart k n room h.1 (at n) entry o e (omega arith) (inside n))
@@ -185,128 +122,108 @@ region_enters {tree} {X} {w} {Q} {o} {e} {room} {pool} {set_pool} {count} {set_c
     index : (c : Counts) (A : Abs) (h : Held) → Content tree c h A → interned_index (hit h.1) (count h.0) ≡ slot key dec v 0 (pool A.state.pools)
     index c A h x = table_slot key dec v w Q o h.1 (count h.0) (pool A.state.pools) (hit h.1) (D.decides h.1) (R.table c A h x)
 
--- ---- entries with their keys
-
-word_keyed : (v o : ℕ) → Keyed itself ℕ_discrete v 1 WordAt o (v ∷ []) (λ ws. word_hit ws o v)
-word_keyed v o = record { stored = λ us p s. new_word us p v s; decides = λ ws i x. word_decides ws o i v x }
-
-hash_keyed : (v o : ℕ) → Keyed itself ℕ_discrete v 2 HashIs o (high v ∷ low v ∷ []) (λ ws. pair_hit ws o (high v) (low v))
-hash_keyed v o = record { stored = λ us p s. new_hash us p v s; decides = λ ws i x. hash_decides ws o i v x }
-
-post_keyed : (v : Post) (o : ℕ) → Keyed post_key pair_discrete v 2 PostIs o (v.scale ∷ v.offset ∷ []) (λ ws. pair_hit ws o v.scale v.offset)
-post_keyed v o = record { stored = λ us p s. new_post us p v s; decides = λ ws i x. post_decides ws o i v x }
-
-module _ (tree : List ℕ) where
-  name_keyed : (r : NameRef) (o : ℕ) → TextOf tree r → Keyed hash_key ℕ_discrete (named tree r) 3 (NameIs tree) o (high r.hash ∷ low r.hash ∷ text_place r.at ∷ []) (λ ws. name_hit ws o (high r.hash) (low r.hash))
-  name_keyed r o g = record { stored = λ us p s. new_name tree us p r g s; decides = λ ws i x. name_decides ws o i tree (named tree r) x }
-
-  member_keyed : (r l : NameRef) (o : ℕ) → TextOf tree r → TextOf tree l → Keyed read_key pair_discrete (read_of tree r l) 6 (MemberAt tree) o (high r.hash ∷ low r.hash ∷ high l.hash ∷ low l.hash ∷ text_place r.at ∷ text_place l.at ∷ []) (λ ws. member_hit ws o (high r.hash) (low r.hash) (high l.hash) (low l.hash))
-  member_keyed r l o g q = record { stored = λ us p s. new_member tree us p r l g q s; decides = λ ws i x. member_decides ws o i tree (read_of tree r l) x }
-
 -- ---- the six regions
 
 module _ (tree : List ℕ) where
   pub consts_region : Region tree 1 WordAt CONSTS POSTS 384 (λ P. P.consts) set_consts (λ s. s.consts) F.set_consts
   consts_region = record {
     entries = word_local;
-    fits = λ A xs l f. fits_pools A _ _ _ _ _ _ f l (same_size A.state.pools.posts) (same_size A.state.pools.hashes) (same_size A.state.pools.names) (same_size A.state.pools.temps) (same_size A.state.pools.members);
+    fits = λ A xs l f. search rules;
     size = λ A xs f. f.consts;
-    table = λ c A h x. x.tables.the_consts;
-    changed = λ c A h vs n xs b x a y. content_pools A tree c h b x vs (apart_wider a CONSTS STORES (omega arith) (omega arith))
-        y
-        (posts_keep h.1 vs _ A.state.pools.posts b.posts (agree_above a (omega arith)) x.tables.the_posts)
-        (hashes_keep h.1 vs _ A.state.pools.hashes b.hashes (agree_above a (omega arith)) x.tables.the_hashes)
-        (names_keep h.1 vs tree _ A.state.pools.names b.names (agree_above a (omega arith)) x.tables.the_names)
-        (temps_keep h.1 vs _ A.state.pools.temps b.temps (agree_above a (omega arith)) x.tables.the_temps)
-        (members_keep h.1 vs tree _ A.state.pools.members b.members (agree_above a (omega arith)) x.tables.the_members);
+    table = λ c A h x. x.tables.pools_held.the_consts;
+    changed = λ c A h vs n xs b x a y. content_pools A tree c h b x vs (apart_wider a CONSTS STORES (omega arith) (omega arith)) (record {
+      the_consts = y;
+      the_posts = table_keep 2 PostIs post_local h.1 vs POSTS _ _ HASHES (omega (arith, b.posts)) (agree_above a (omega arith)) x.tables.pools_held.the_posts;
+      the_hashes = table_keep 2 HashIs hash_local h.1 vs HASHES _ _ NAMES (omega (arith, b.hashes)) (agree_above a (omega arith)) x.tables.pools_held.the_hashes;
+      the_names = table_keep 3 (NameIs tree) (name_local tree) h.1 vs NAMES _ _ TEMPS (omega (arith, b.names)) (agree_above a (omega arith)) x.tables.pools_held.the_names;
+      the_temps = table_keep 1 WordAt word_local h.1 vs TEMPS _ _ MEMBERS (omega (arith, b.temps)) (agree_above a (omega arith)) x.tables.pools_held.the_temps;
+      the_members = table_keep 6 (MemberAt tree) (member_local tree) h.1 vs MEMBERS _ _ STORES (omega (arith, b.members)) (agree_above a (omega arith)) x.tables.pools_held.the_members;
+    });
   }
 
   pub posts_region : Region tree 2 PostIs POSTS HASHES 384 (λ P. P.posts) set_posts (λ s. s.posts) F.set_posts
   posts_region = record {
     entries = post_local;
-    fits = λ A xs l f. fits_pools A _ _ _ _ _ _ f (same_size A.state.pools.consts) l (same_size A.state.pools.hashes) (same_size A.state.pools.names) (same_size A.state.pools.temps) (same_size A.state.pools.members);
+    fits = λ A xs l f. search rules;
     size = λ A xs f. f.posts;
-    table = λ c A h x. x.tables.the_posts;
-    changed = λ c A h vs n xs b x a y. content_pools A tree c h b x vs (apart_wider a CONSTS STORES (omega arith) (omega arith))
-        (consts_keep h.1 vs _ A.state.pools.consts b.consts (agree_below a (omega arith)) x.tables.the_consts)
-        y
-        (hashes_keep h.1 vs _ A.state.pools.hashes b.hashes (agree_above a (omega arith)) x.tables.the_hashes)
-        (names_keep h.1 vs tree _ A.state.pools.names b.names (agree_above a (omega arith)) x.tables.the_names)
-        (temps_keep h.1 vs _ A.state.pools.temps b.temps (agree_above a (omega arith)) x.tables.the_temps)
-        (members_keep h.1 vs tree _ A.state.pools.members b.members (agree_above a (omega arith)) x.tables.the_members);
+    table = λ c A h x. x.tables.pools_held.the_posts;
+    changed = λ c A h vs n xs b x a y. content_pools A tree c h b x vs (apart_wider a CONSTS STORES (omega arith) (omega arith)) (record {
+      the_consts = table_keep 1 WordAt word_local h.1 vs CONSTS _ _ POSTS (omega (arith, b.consts)) (agree_below a (omega arith)) x.tables.pools_held.the_consts;
+      the_posts = y;
+      the_hashes = table_keep 2 HashIs hash_local h.1 vs HASHES _ _ NAMES (omega (arith, b.hashes)) (agree_above a (omega arith)) x.tables.pools_held.the_hashes;
+      the_names = table_keep 3 (NameIs tree) (name_local tree) h.1 vs NAMES _ _ TEMPS (omega (arith, b.names)) (agree_above a (omega arith)) x.tables.pools_held.the_names;
+      the_temps = table_keep 1 WordAt word_local h.1 vs TEMPS _ _ MEMBERS (omega (arith, b.temps)) (agree_above a (omega arith)) x.tables.pools_held.the_temps;
+      the_members = table_keep 6 (MemberAt tree) (member_local tree) h.1 vs MEMBERS _ _ STORES (omega (arith, b.members)) (agree_above a (omega arith)) x.tables.pools_held.the_members;
+    });
   }
 
   pub hashes_region : Region tree 2 HashIs HASHES NAMES 384 (λ P. P.hashes) set_hashes (λ s. s.hashes) F.set_hashes
   hashes_region = record {
     entries = hash_local;
-    fits = λ A xs l f. fits_pools A _ _ _ _ _ _ f (same_size A.state.pools.consts) (same_size A.state.pools.posts) l (same_size A.state.pools.names) (same_size A.state.pools.temps) (same_size A.state.pools.members);
+    fits = λ A xs l f. search rules;
     size = λ A xs f. f.hashes;
-    table = λ c A h x. x.tables.the_hashes;
-    changed = λ c A h vs n xs b x a y. content_pools A tree c h b x vs (apart_wider a CONSTS STORES (omega arith) (omega arith))
-        (consts_keep h.1 vs _ A.state.pools.consts b.consts (agree_below a (omega arith)) x.tables.the_consts)
-        (posts_keep h.1 vs _ A.state.pools.posts b.posts (agree_below a (omega arith)) x.tables.the_posts)
-        y
-        (names_keep h.1 vs tree _ A.state.pools.names b.names (agree_above a (omega arith)) x.tables.the_names)
-        (temps_keep h.1 vs _ A.state.pools.temps b.temps (agree_above a (omega arith)) x.tables.the_temps)
-        (members_keep h.1 vs tree _ A.state.pools.members b.members (agree_above a (omega arith)) x.tables.the_members);
+    table = λ c A h x. x.tables.pools_held.the_hashes;
+    changed = λ c A h vs n xs b x a y. content_pools A tree c h b x vs (apart_wider a CONSTS STORES (omega arith) (omega arith)) (record {
+      the_consts = table_keep 1 WordAt word_local h.1 vs CONSTS _ _ POSTS (omega (arith, b.consts)) (agree_below a (omega arith)) x.tables.pools_held.the_consts;
+      the_posts = table_keep 2 PostIs post_local h.1 vs POSTS _ _ HASHES (omega (arith, b.posts)) (agree_below a (omega arith)) x.tables.pools_held.the_posts;
+      the_hashes = y;
+      the_names = table_keep 3 (NameIs tree) (name_local tree) h.1 vs NAMES _ _ TEMPS (omega (arith, b.names)) (agree_above a (omega arith)) x.tables.pools_held.the_names;
+      the_temps = table_keep 1 WordAt word_local h.1 vs TEMPS _ _ MEMBERS (omega (arith, b.temps)) (agree_above a (omega arith)) x.tables.pools_held.the_temps;
+      the_members = table_keep 6 (MemberAt tree) (member_local tree) h.1 vs MEMBERS _ _ STORES (omega (arith, b.members)) (agree_above a (omega arith)) x.tables.pools_held.the_members;
+    });
   }
 
   pub names_region : Region tree 3 (NameIs tree) NAMES TEMPS 256 (λ P. P.names) set_names (λ s. s.names) F.set_names
   names_region = record {
     entries = (name_local tree);
-    fits = λ A xs l f. fits_pools A _ _ _ _ _ _ f (same_size A.state.pools.consts) (same_size A.state.pools.posts) (same_size A.state.pools.hashes) l (same_size A.state.pools.temps) (same_size A.state.pools.members);
+    fits = λ A xs l f. search rules;
     size = λ A xs f. f.names;
-    table = λ c A h x. x.tables.the_names;
-    changed = λ c A h vs n xs b x a y. content_pools A tree c h b x vs (apart_wider a CONSTS STORES (omega arith) (omega arith))
-        (consts_keep h.1 vs _ A.state.pools.consts b.consts (agree_below a (omega arith)) x.tables.the_consts)
-        (posts_keep h.1 vs _ A.state.pools.posts b.posts (agree_below a (omega arith)) x.tables.the_posts)
-        (hashes_keep h.1 vs _ A.state.pools.hashes b.hashes (agree_below a (omega arith)) x.tables.the_hashes)
-        y
-        (temps_keep h.1 vs _ A.state.pools.temps b.temps (agree_above a (omega arith)) x.tables.the_temps)
-        (members_keep h.1 vs tree _ A.state.pools.members b.members (agree_above a (omega arith)) x.tables.the_members);
+    table = λ c A h x. x.tables.pools_held.the_names;
+    changed = λ c A h vs n xs b x a y. content_pools A tree c h b x vs (apart_wider a CONSTS STORES (omega arith) (omega arith)) (record {
+      the_consts = table_keep 1 WordAt word_local h.1 vs CONSTS _ _ POSTS (omega (arith, b.consts)) (agree_below a (omega arith)) x.tables.pools_held.the_consts;
+      the_posts = table_keep 2 PostIs post_local h.1 vs POSTS _ _ HASHES (omega (arith, b.posts)) (agree_below a (omega arith)) x.tables.pools_held.the_posts;
+      the_hashes = table_keep 2 HashIs hash_local h.1 vs HASHES _ _ NAMES (omega (arith, b.hashes)) (agree_below a (omega arith)) x.tables.pools_held.the_hashes;
+      the_names = y;
+      the_temps = table_keep 1 WordAt word_local h.1 vs TEMPS _ _ MEMBERS (omega (arith, b.temps)) (agree_above a (omega arith)) x.tables.pools_held.the_temps;
+      the_members = table_keep 6 (MemberAt tree) (member_local tree) h.1 vs MEMBERS _ _ STORES (omega (arith, b.members)) (agree_above a (omega arith)) x.tables.pools_held.the_members;
+    });
   }
 
   pub temps_region : Region tree 1 WordAt TEMPS MEMBERS 256 (λ P. P.temps) set_temps (λ s. s.temps) F.set_temps
   temps_region = record {
     entries = word_local;
-    fits = λ A xs l f. fits_pools A _ _ _ _ _ _ f (same_size A.state.pools.consts) (same_size A.state.pools.posts) (same_size A.state.pools.hashes) (same_size A.state.pools.names) l (same_size A.state.pools.members);
+    fits = λ A xs l f. search rules;
     size = λ A xs f. f.temps;
-    table = λ c A h x. x.tables.the_temps;
-    changed = λ c A h vs n xs b x a y. content_pools A tree c h b x vs (apart_wider a CONSTS STORES (omega arith) (omega arith))
-        (consts_keep h.1 vs _ A.state.pools.consts b.consts (agree_below a (omega arith)) x.tables.the_consts)
-        (posts_keep h.1 vs _ A.state.pools.posts b.posts (agree_below a (omega arith)) x.tables.the_posts)
-        (hashes_keep h.1 vs _ A.state.pools.hashes b.hashes (agree_below a (omega arith)) x.tables.the_hashes)
-        (names_keep h.1 vs tree _ A.state.pools.names b.names (agree_below a (omega arith)) x.tables.the_names)
-        y
-        (members_keep h.1 vs tree _ A.state.pools.members b.members (agree_above a (omega arith)) x.tables.the_members);
+    table = λ c A h x. x.tables.pools_held.the_temps;
+    changed = λ c A h vs n xs b x a y. content_pools A tree c h b x vs (apart_wider a CONSTS STORES (omega arith) (omega arith)) (record {
+      the_consts = table_keep 1 WordAt word_local h.1 vs CONSTS _ _ POSTS (omega (arith, b.consts)) (agree_below a (omega arith)) x.tables.pools_held.the_consts;
+      the_posts = table_keep 2 PostIs post_local h.1 vs POSTS _ _ HASHES (omega (arith, b.posts)) (agree_below a (omega arith)) x.tables.pools_held.the_posts;
+      the_hashes = table_keep 2 HashIs hash_local h.1 vs HASHES _ _ NAMES (omega (arith, b.hashes)) (agree_below a (omega arith)) x.tables.pools_held.the_hashes;
+      the_names = table_keep 3 (NameIs tree) (name_local tree) h.1 vs NAMES _ _ TEMPS (omega (arith, b.names)) (agree_below a (omega arith)) x.tables.pools_held.the_names;
+      the_temps = y;
+      the_members = table_keep 6 (MemberAt tree) (member_local tree) h.1 vs MEMBERS _ _ STORES (omega (arith, b.members)) (agree_above a (omega arith)) x.tables.pools_held.the_members;
+    });
   }
 
   pub members_region : Region tree 6 (MemberAt tree) MEMBERS STORES 256 (λ P. P.members) set_members (λ s. s.members) F.set_members
   members_region = record {
     entries = (member_local tree);
-    fits = λ A xs l f. fits_pools A _ _ _ _ _ _ f (same_size A.state.pools.consts) (same_size A.state.pools.posts) (same_size A.state.pools.hashes) (same_size A.state.pools.names) (same_size A.state.pools.temps) l;
+    fits = λ A xs l f. search rules;
     size = λ A xs f. f.members;
-    table = λ c A h x. x.tables.the_members;
-    changed = λ c A h vs n xs b x a y. content_pools A tree c h b x vs (apart_wider a CONSTS STORES (omega arith) (omega arith))
-        (consts_keep h.1 vs _ A.state.pools.consts b.consts (agree_below a (omega arith)) x.tables.the_consts)
-        (posts_keep h.1 vs _ A.state.pools.posts b.posts (agree_below a (omega arith)) x.tables.the_posts)
-        (hashes_keep h.1 vs _ A.state.pools.hashes b.hashes (agree_below a (omega arith)) x.tables.the_hashes)
-        (names_keep h.1 vs tree _ A.state.pools.names b.names (agree_below a (omega arith)) x.tables.the_names)
-        (temps_keep h.1 vs _ A.state.pools.temps b.temps (agree_below a (omega arith)) x.tables.the_temps)
-        y;
+    table = λ c A h x. x.tables.pools_held.the_members;
+    changed = λ c A h vs n xs b x a y. content_pools A tree c h b x vs (apart_wider a CONSTS STORES (omega arith) (omega arith)) (record {
+      the_consts = table_keep 1 WordAt word_local h.1 vs CONSTS _ _ POSTS (omega (arith, b.consts)) (agree_below a (omega arith)) x.tables.pools_held.the_consts;
+      the_posts = table_keep 2 PostIs post_local h.1 vs POSTS _ _ HASHES (omega (arith, b.posts)) (agree_below a (omega arith)) x.tables.pools_held.the_posts;
+      the_hashes = table_keep 2 HashIs hash_local h.1 vs HASHES _ _ NAMES (omega (arith, b.hashes)) (agree_below a (omega arith)) x.tables.pools_held.the_hashes;
+      the_names = table_keep 3 (NameIs tree) (name_local tree) h.1 vs NAMES _ _ TEMPS (omega (arith, b.names)) (agree_below a (omega arith)) x.tables.pools_held.the_names;
+      the_temps = table_keep 1 WordAt word_local h.1 vs TEMPS _ _ MEMBERS (omega (arith, b.temps)) (agree_below a (omega arith)) x.tables.pools_held.the_temps;
+      the_members = y;
+    });
   }
 
 -- ---- interning
 
 module _ (tree : List ℕ) where
-  pub const_enters : (v : ℕ) → Enters tree (const_state v) (const_index v) (B.konst v)
-  unfolding B.konst
-  const_enters v = region_enters (consts_region tree) (word_keyed v CONSTS) (λ n. CONSTS + n) (λ n. omega arith) (λ n l. omega arith) (omega arith)
-
-  pub hash_enters : (v : ℕ) → Enters tree (hash_state v) (hash_index v) (B.hash v)
-  unfolding B.hash
-  hash_enters v = region_enters (hashes_region tree) (hash_keyed v HASHES) (λ n. HASHES + 2 * n) (λ n. omega arith) (λ n l. omega arith) (omega arith)
-
   pub name_enters : (r : NameRef) → TextOf tree r → Enters tree (name_state (named tree r)) (name_index (named tree r)) (B.name r)
   unfolding B.name
   name_enters r g = region_enters (names_region tree) (name_keyed tree r NAMES g) (λ n. NAMES + 3 * n) (λ n. omega arith) (λ n l. omega arith) (omega arith)
@@ -315,10 +232,6 @@ module _ (tree : List ℕ) where
   unfolding B.slot
   slot_enters v = region_enters (temps_region tree) (word_keyed v TEMPS) (λ n. TEMPS + n) (λ n. omega arith) (λ n l. omega arith) (omega arith)
 
-  pub member_enters : (r l : NameRef) → TextOf tree r → TextOf tree l → Enters tree (member_state (read_of tree r l)) (member_index (read_of tree r l)) (B.member r l)
-  unfolding B.member
-  member_enters r l g q = region_enters (members_region tree) (member_keyed tree r l MEMBERS g q) (λ n. MEMBERS + 6 * n) (λ n. omega arith) (λ n j. omega arith) (omega arith)
-
   -- a post that is no identity, as one of the pool
   abbrev pooled_found : Post → Held → Found
   pooled_found v h = found (λ n. F.set_posts n h.0) (interned_index (pair_hit h.1 POSTS v.scale v.offset) h.0.posts) h.0.posts 384 h.1 (POSTS + 2 * h.0.posts) (v.scale ∷ v.offset ∷ [])
@@ -326,6 +239,7 @@ module _ (tree : List ℕ) where
   pooled_enters : (v : Post) → Enters tree (pooled_state v) (pooled_index v) (pooled_found v)
   pooled_enters v = region_enters (posts_region tree) (post_keyed v POSTS) (λ n. POSTS + 2 * n) (λ n. omega arith) (λ n l. omega arith) (omega arith)
 
+  -- the identity is post 0, and is not looked up
   post_if_enters : (b : Bool) (v : Post) → Enters tree (λ s. cond b s (pooled_state v s)) (λ s. cond b 0 (suc (pooled_index v s))) (λ h. cond b (record { state = h.0; index = 0 }, h.1) (record { state = (pooled_found v h).0.state; index = after (pooled_found v h).0.index }, (pooled_found v h).1))
   post_if_enters true v = record { back = λ A f. f; index = λ c A h f x. refl; keep = λ c A h f x. x }
   post_if_enters false v =
@@ -340,53 +254,11 @@ module _ (tree : List ℕ) where
         keep = m.keep;
       }
 
-  pub post_enters : (v : Post) → Enters tree (post_state v) (post_index v) (B.post v)
-  unfolding B.post
-  post_enters v = post_if_enters (is_identity v) v
-
 -- ---- temps
-
-fits_flags : (A : Abs) → Fits (on_state uses_temps A) → Fits A
-fits_flags A f = record {
-  code = f.code;
-  consts = f.consts;
-  posts = f.posts;
-  hashes = f.hashes;
-  names = f.names;
-  temps = f.temps;
-  members = f.members;
-  stores = f.stores;
-  paths = f.paths;
-  calls = f.calls;
-  arguments = f.arguments;
-  operands = f.operands;
-  loops = f.loops;
-  handlers = f.handlers;
-}
 
 content_flags : (tree : List ℕ) (c : Counts) (A : Abs) (h : Held) → Content tree c h A → Content tree c (F.set_flags (bit_or h.0.flags USES_TEMPS) h.0, h.1) (on_state uses_temps A)
 unfolding sets
-content_flags tree c A h x =
-    let b = x.beside in
-    record {
-      enough = x.enough;
-      beside = record {
-        waiting_is = b.waiting_is;
-        stack_is = b.stack_is;
-        loops_is = b.loops_is;
-        handlers_is = b.handlers_is;
-        stack_max = b.stack_max;
-        loops_max = b.loops_max;
-        handlers_max = b.handlers_max;
-        stack_within = b.stack_within;
-        loops_within = b.loops_within;
-        handlers_within = b.handlers_within;
-        bits_are = ap (λ (m : ℕ). bit_or m USES_TEMPS) b.bits_are;
-        float_loop_is = b.float_loop_is;
-        number_is = b.number_is;
-      };
-      tables = x.tables;
-    }
+content_flags tree c A h x = search rules
 
 module _ (tree : List ℕ) where
   abbrev flagged_name : NameRef → Held → Held
@@ -398,15 +270,15 @@ module _ (tree : List ℕ) where
       let v = named tree r in
       let m = name_enters tree r g in
       record {
-        back = λ A f. m.back A (fits_flags (on_state (name_state v) A) ((slot_enters tree (name_index v A.state)).back (on_state uses_temps (on_state (name_state v) A)) f));
+        back = λ A f. m.back A (((slot_enters tree (name_index v A.state)).back (on_state uses_temps (on_state (name_state v) A)) f));
         index = λ c A h f x.
             let B2 = on_state uses_temps (on_state (name_state v) A) in
-            let f1 = fits_flags (on_state (name_state v) A) ((slot_enters tree (name_index v A.state)).back B2 f) in
+            let f1 = ((slot_enters tree (name_index v A.state)).back B2 f) in
             subst (λ (j : ℕ). (B.slot j (flagged_name r h)).0.index ≡ temp_index v A.state) (sym (m.index c A h f1 x))
             ((slot_enters tree (name_index v A.state)).index c B2 (flagged_name r h) f (content_flags tree c (on_state (name_state v) A) ((B.name r h).0.state, (B.name r h).1) (m.keep c A h f1 x)));
         keep = λ c A h f x.
             let B2 = on_state uses_temps (on_state (name_state v) A) in
-            let f1 = fits_flags (on_state (name_state v) A) ((slot_enters tree (name_index v A.state)).back B2 f) in
+            let f1 = ((slot_enters tree (name_index v A.state)).back B2 f) in
             subst (λ (j : ℕ). Content tree c ((B.slot j (flagged_name r h)).0.state, (B.slot j (flagged_name r h)).1) (on_state (temp_state v) A)) (sym (m.index c A h f1 x))
             ((slot_enters tree (name_index v A.state)).keep c B2 (flagged_name r h) f (content_flags tree c (on_state (name_state v) A) ((B.name r h).0.state, (B.name r h).1) (m.keep c A h f1 x)));
       }
@@ -420,10 +292,12 @@ post_does_if tree f c false v G d = record { back = d.back; keep = d.keep }
 
 module _ {tree : List ℕ} {f : ℕ → Lowering} {F : ℕ → Step} {c : Counts} where
   pub const_does : (v : ℕ) → ((i : ℕ) → Does tree (f i) c (F i)) → Does tree (with_const v f) c (L.with_const v F)
-  const_does v d = with_does (const_enters tree v) d
+  unfolding B.konst
+  const_does v d = with_does (region_enters (consts_region tree) (word_keyed v CONSTS) (λ n. CONSTS + n) (λ n. omega arith) (λ n l. omega arith) (omega arith)) d
 
   pub hash_does : (v : ℕ) → ((i : ℕ) → Does tree (f i) c (F i)) → Does tree (with_hash v f) c (L.with_hash v F)
-  hash_does v d = with_does (hash_enters tree v) d
+  unfolding B.hash
+  hash_does v d = with_does (region_enters (hashes_region tree) (hash_keyed v HASHES) (λ n. HASHES + 2 * n) (λ n. omega arith) (λ n l. omega arith) (omega arith)) d
 
   pub name_does : (r : NameRef) → TextOf tree r → ((i : ℕ) → Does tree (f i) c (F i)) → Does tree (with_name (named tree r) f) c (L.with_name r F)
   name_does r g d = with_does (name_enters tree r g) d
@@ -432,7 +306,9 @@ module _ {tree : List ℕ} {f : ℕ → Lowering} {F : ℕ → Step} {c : Counts
   temp_does r g d = with_does (temp_enters tree r g) d
 
   pub member_does : (r l : NameRef) → TextOf tree r → TextOf tree l → ((i : ℕ) → Does tree (f i) c (F i)) → Does tree (with_member (read_of tree r l) f) c (L.with_member r l F)
-  member_does r l g q d = with_does (member_enters tree r l g q) d
+  unfolding B.member
+  member_does r l g q d = with_does (region_enters (members_region tree) (member_keyed tree r l MEMBERS g q) (λ n. MEMBERS + 6 * n) (λ n. omega arith) (λ n j. omega arith) (omega arith)) d
 
   pub post_does : (v : Post) → ((i : ℕ) → Does tree (f i) c (F i)) → Does tree (with_post v f) c (λ h. going (B.post v h) F)
-  post_does v d = post_does_if tree f c (is_identity v) v (λ h. going (B.post v h) F) (with_does (post_enters tree v) d)
+  unfolding B.post
+  post_does v d = post_does_if tree f c (is_identity v) v (λ h. going (B.post v h) F) (with_does (post_if_enters tree (is_identity v) v) d)

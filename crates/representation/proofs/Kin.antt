@@ -1,11 +1,5 @@
 -- Rules by how many children they read; steps that many rules share. Assumes nothing.
-use mathlib.Core.Path.{◌≡◌, refl, sym, subst, ◌∙◌}
-use mathlib.Core.Bool.{Bool, true, false, cond}
-use mathlib.Core.List.{List, [], ◌∷◌}
-use Prim.Native.Nat.{ℕ, zero, suc, ◌≤◌}
-use native.Mathlib.Omega.{arith}
-use lib.Dec.{eqb, ltb}
-use borrow.Author.Tests.{eq-eqb, ne_eqb, lt-ltb, le-ltb}
+use Rattle.std.proofs.Common.{◌≡◌, refl, sym, ◌∙◌, Bool, true, false, cond, List, [], ◌∷◌, ℕ, zero, suc, ◌≤◌, arith, eqb, ltb, eq-eqb, ne_eqb, lt-ltb, le-ltb}
 use Rattle.numeric.specs.Post.{is_identity}
 use Rattle.ast.specs.Node.{next_at}
 use Rattle.program.specs.Instruction.{Instruction, plain, post}
@@ -30,69 +24,47 @@ use Rattle.representation.proofs.Laws.{flags_move, popped_move}
 use Rattle.representation.proofs.OpenCode.{nothing_does}
 use Rattle.representation.proofs.Branches as C
 use Rattle.representation.proofs.Branches.{instr_does}
-use Rattle.representation.proofs.Arguments.{Child, Children}
+use Rattle.representation.proofs.Arguments.{Child, Children, children_count}
 
 -- ---- by the number of children
 
 module _ (tree : List ℕ) (E : ℕ → Bool → Step) (C : ℕ → NameRef → Bool → Step) (Z : ℕ → Bool → Step) (c : Counts) (d : Lowering) {D F : Step} (x : Does tree d c D) where
   pub one_rel : (f : Lowerings → Lowering) (xs : List Lowerings) (m q : ℕ) → Children tree E C Z xs m q → ((a : Lowerings) → Child tree E C Z a q → Does tree (f a) c F) → Does tree (one xs d f) c (λ h. cond (eqb m 0) (D h) (F h))
   one_rel f [] zero q k y = x
-  one_rel f [] (suc m) q k y = absurd k
-  one_rel f (a ∷ xs) zero q k y = absurd k
-  one_rel f (a ∷ xs) (suc m) q k y = subst (λ (b : Bool). Does tree (f a) c (λ h. cond b (D h) (F h))) (sym (ne_eqb (suc m) 0 (λ e. omega arith))) (y a k.0)
+  one_rel f (a ∷ xs) (suc m) q k y = rw (ne_eqb (suc m) 0 (λ e. omega arith)) (y a k.0)
+  one_rel f xs m q k y = absurd k
 
   pub some_rel : (f : Lowerings → List Lowerings → Lowering) (xs : List Lowerings) (m q : ℕ) → Children tree E C Z xs m q → ((a : Lowerings) (ys : List Lowerings) (j : ℕ) → m ≡ suc j → Child tree E C Z a q → Children tree E C Z ys j (next_at tree q) → Does tree (f a ys) c F) → Does tree (some xs d f) c (λ h. cond (eqb m 0) (D h) (F h))
   some_rel f [] zero q k y = x
-  some_rel f [] (suc m) q k y = absurd k
-  some_rel f (a ∷ xs) zero q k y = absurd k
-  some_rel f (a ∷ xs) (suc m) q k y = subst (λ (b : Bool). Does tree (f a xs) c (λ h. cond b (D h) (F h))) (sym (ne_eqb (suc m) 0 (λ e. omega arith))) (y a xs m refl k.0 k.1)
+  some_rel f (a ∷ xs) (suc m) q k y = rw (ne_eqb (suc m) 0 (λ e. omega arith)) (y a xs m refl k.0 k.1)
+  some_rel f xs m q k y = absurd k
 
   pub just_rel : (f : Lowerings → Lowering) (xs : List Lowerings) (m q : ℕ) → Children tree E C Z xs m q → ((a : Lowerings) → Child tree E C Z a q → Does tree (f a) c F) → Does tree (just xs d f) c (λ h. cond (eqb m 1) (F h) (D h))
   just_rel f [] zero q k y = x
-  just_rel f [] (suc m) q k y = absurd k
-  just_rel f (a ∷ []) zero q k y = absurd k
   just_rel f (a ∷ []) (suc zero) q k y = y a k.0
-  just_rel f (a ∷ []) (suc (suc m)) q k y = absurd k.1
-  just_rel f (a ∷ b ∷ xs) zero q k y = absurd k
-  just_rel f (a ∷ b ∷ xs) (suc zero) q k y = absurd k.1
-  just_rel f (a ∷ b ∷ xs) (suc (suc m)) q k y = subst (λ (t : Bool). Does tree d c (λ h. cond t (F h) (D h))) (sym (ne_eqb (suc (suc m)) 1 (λ e. omega arith))) x
+  just_rel f (a ∷ b ∷ xs) (suc (suc m)) q k y = rw (ne_eqb (suc (suc m)) 1 (λ e. omega arith)) x
+  just_rel f xs m q k y = absurd (let e = children_count tree E C Z xs m q k in omega arith)
 
   -- two and the rest
   pub pair_rel : (f : Lowerings → Lowerings → List Lowerings → Lowering) (xs : List Lowerings) (m q : ℕ) → Children tree E C Z xs m q → ((a b : Lowerings) (zs : List Lowerings) (j : ℕ) → m ≡ suc (suc j) → Child tree E C Z a q → Child tree E C Z b (next_at tree q) → Children tree E C Z zs j (next_at tree (next_at tree q)) → Does tree (f a b zs) c F)
       → Does tree (some xs d (λ a ys. some ys d (λ b zs. f a b zs))) c (λ h. cond (ltb m 2) (D h) (F h))
   pair_rel f [] zero q k y = x
-  pair_rel f [] (suc m) q k y = absurd k
-  pair_rel f (a ∷ []) zero q k y = absurd k
   pair_rel f (a ∷ []) (suc zero) q k y = x
-  pair_rel f (a ∷ []) (suc (suc m)) q k y = absurd k.1
-  pair_rel f (a ∷ b ∷ xs) zero q k y = absurd k
-  pair_rel f (a ∷ b ∷ xs) (suc zero) q k y = absurd k.1
-  pair_rel f (a ∷ b ∷ xs) (suc (suc m)) q k y = subst (λ (t : Bool). Does tree (f a b xs) c (λ h. cond t (D h) (F h))) (sym (le-ltb (suc (suc m)) 2 (omega arith))) (y a b xs m refl k.0 k.1.0 k.1.1)
+  pair_rel f (a ∷ b ∷ xs) (suc (suc m)) q k y = rw (le-ltb (suc (suc m)) 2 (omega arith)) (y a b xs m refl k.0 k.1.0 k.1.1)
+  pair_rel f xs m q k y = absurd (let e = children_count tree E C Z xs m q k in omega arith)
 
   pub two_rel : (f : Lowerings → Lowerings → Lowering) (xs : List Lowerings) (m q : ℕ) → Children tree E C Z xs m q → ((a b : Lowerings) → Child tree E C Z a q → Child tree E C Z b (next_at tree q) → Does tree (f a b) c F) → Does tree (two xs d f) c (λ h. cond (ltb m 2) (D h) (F h))
   two_rel f [] zero q k y = x
-  two_rel f [] (suc m) q k y = absurd k
-  two_rel f (a ∷ []) zero q k y = absurd k
   two_rel f (a ∷ []) (suc zero) q k y = x
-  two_rel f (a ∷ []) (suc (suc m)) q k y = absurd k.1
-  two_rel f (a ∷ b ∷ xs) zero q k y = absurd k
-  two_rel f (a ∷ b ∷ xs) (suc zero) q k y = absurd k.1
-  two_rel f (a ∷ b ∷ xs) (suc (suc m)) q k y = subst (λ (t : Bool). Does tree (f a b) c (λ h. cond t (D h) (F h))) (sym (le-ltb (suc (suc m)) 2 (omega arith))) (y a b k.0 k.1.0)
+  two_rel f (a ∷ b ∷ xs) (suc (suc m)) q k y = rw (le-ltb (suc (suc m)) 2 (omega arith)) (y a b k.0 k.1.0)
+  two_rel f xs m q k y = absurd (let e = children_count tree E C Z xs m q k in omega arith)
 
   pub three_rel : (f : Lowerings → Lowerings → Lowerings → Lowering) (xs : List Lowerings) (m q : ℕ) → Children tree E C Z xs m q → ((a b e : Lowerings) → 3 ≤ m → Child tree E C Z a q → Child tree E C Z b (next_at tree q) → Child tree E C Z e (next_at tree (next_at tree q)) → Does tree (f a b e) c F) → Does tree (three xs d f) c (λ h. cond (ltb m 3) (D h) (F h))
   three_rel f [] zero q k y = x
-  three_rel f [] (suc m) q k y = absurd k
-  three_rel f (a ∷ []) zero q k y = absurd k
   three_rel f (a ∷ []) (suc zero) q k y = x
-  three_rel f (a ∷ []) (suc (suc m)) q k y = absurd k.1
-  three_rel f (a ∷ b ∷ []) zero q k y = absurd k
-  three_rel f (a ∷ b ∷ []) (suc zero) q k y = absurd k.1
   three_rel f (a ∷ b ∷ []) (suc (suc zero)) q k y = x
-  three_rel f (a ∷ b ∷ []) (suc (suc (suc m))) q k y = absurd k.1.1
-  three_rel f (a ∷ b ∷ e ∷ xs) zero q k y = absurd k
-  three_rel f (a ∷ b ∷ e ∷ xs) (suc zero) q k y = absurd k.1
-  three_rel f (a ∷ b ∷ e ∷ xs) (suc (suc zero)) q k y = absurd k.1.1
-  three_rel f (a ∷ b ∷ e ∷ xs) (suc (suc (suc m))) q k y = subst (λ (t : Bool). Does tree (f a b e) c (λ h. cond t (D h) (F h))) (sym (le-ltb (suc (suc (suc m))) 3 (omega arith))) (y a b e (omega arith) k.0 k.1.0 k.1.1.0)
+  three_rel f (a ∷ b ∷ e ∷ xs) (suc (suc (suc m))) q k y = rw (le-ltb (suc (suc (suc m))) 3 (omega arith)) (y a b e (omega arith) k.0 k.1.0 k.1.1.0)
+  three_rel f xs m q k y = absurd (let e = children_count tree E C Z xs m q k in omega arith)
 
 -- how the tests on counts follow one another
 pub one_left : (m j : ℕ) → m ≡ suc j → eqb j 0 ≡ eqb m 1
@@ -104,10 +76,6 @@ two_left m zero e = sym (lt-ltb m 3 (omega arith))
 two_left m (suc j) e = ne_eqb (suc j) 0 (λ q. omega arith) ∙ sym (le-ltb m 3 (omega arith))
 
 -- ---- shared steps
-
-post_word : (q : ℕ) → word_of (plain (post q)) ≡ word 34 0 0 q
-unfolding word_of
-post_word q = refl
 
 module _ {tree : List ℕ} {c : Counts} where
   pub nothing_move : Moves tree (λ A. A) c c (λ h. h)
@@ -123,12 +91,12 @@ module _ {tree : List ℕ} {c : Counts} where
   put_post_lem p i op sub a e = I.post_does (L.post_bits tree p) (λ q. instr_does (i q) (e q))
 
   pub post_behind : (p : ℕ) → Does tree (post_instruction (L.post_bits tree p)) c (L.post_instr tree p)
-  unfolding L.post_instr
+  unfolding L.post_instr word_of
   post_behind p = go (is_identity (L.post_bits tree p))
     where
       go : (b : Bool) → Does tree (cond b nothing (with_post (L.post_bits tree p) λ q. put (plain (post q)))) c (λ h. cond b (W.flushed h) (L.put_post tree p 34 0 0 h))
       go true = nothing_does
-      go false = put_post_lem p (λ q. plain (post q)) 34 0 0 post_word
+      go false = put_post_lem p (λ q. plain (post q)) 34 0 0 (λ q. refl)
 
   -- ---- flags
 

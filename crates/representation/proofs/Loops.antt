@@ -1,11 +1,7 @@
 -- Loops: LoopBegin or EachBegin, the body with its Breaks and Continues resolved, the way back, LoopEnd. Assumes nothing.
-use mathlib.Core.Path.{◌≡◌, refl, sym, ap, subst, ◌∙◌}
-use mathlib.Core.Bool.{true, false}
-use mathlib.Core.List.{List, [], ◌∷◌, ◌++◌, map, append_assoc}
-use Prim.Native.Nat.{ℕ, suc, ◌+◌, ◌≤◌}
-use native.Mathlib.Omega.{arith}
-use lib.ListN.{length, length-append}
-use Rattle.program.specs.Instruction.{Instruction, loop_begin, loop_check, loop_end, each_begin, jump}
+use Rattle.std.proofs.Common.{◌≡◌, refl, sym, ap, subst, ◌∙◌, true, false, List, [], ◌∷◌, ◌++◌, map, append_assoc, ℕ, suc, ◌+◌, ◌≤◌, arith, length, length-append}
+use lib.ListN.{length-map}
+use Rattle.program.specs.Instruction.{Instruction, loop_begin, loop_check, loop_end, each_begin}
 use Rattle.program.specs.Program.{Counts}
 use Rattle.program.specs.Image.{word_of, word}
 use Rattle.semantics.specs.Positions.{past}
@@ -15,7 +11,7 @@ use Rattle.semantics.specs.State.{Item, instr, State, raise}
 use Rattle.semantics.specs.Pieces.{Lowered, emit, Lowering, flush, put, aim, counted_loop}
 use Rattle.lowering.specs.Pools.{after}
 use Rattle.builder.specs.Segments as T
-use Rattle.builder.specs.Steps.{Held}
+use Rattle.lowering.specs.Held.{Held}
 use Rattle.lowering.specs.Parts as L
 use Rattle.lowering.specs.Parts.{Step}
 use Rattle.builder.specs.Steps.{still}
@@ -23,7 +19,7 @@ use Rattle.lowering.specs.Steps as Y
 use Rattle.representation.proofs.Represents.{OpenCall, Abs, Fits, Content, Does, run}
 use Rattle.representation.proofs.Laws.{loop_move, loop_left_lem}
 use Rattle.representation.proofs.OpenCode.{back_add, back_code, flushed_code, flush_a, back_flush, flush_is}
-use Rattle.representation.proofs.Targets.{mk, placed, land_at, aim_at, length_aimed, Leads, lead_front, lead_back, guarding, guard_place}
+use Rattle.representation.proofs.Targets.{mk, placed, land_at, aim_at, Leads, lead_front, lead_back, guarding, guard_place}
 use Rattle.representation.proofs.Branches as B
 use Rattle.representation.proofs.Branches.{instr_does}
 
@@ -45,18 +41,6 @@ module _ {tree : List ℕ} {c : Counts} where
   puts i {op} {sub} {a} {b} e o k os s h q r =
       let p = put_here i c o k os s in
       subst (λ (B : Abs). Content tree c (L.instr op sub a b h) B) p ((instr_does i e).keep (mk o k false os s) h (subst (λ (B : Abs). Fits B) (sym p) q) r)
-
-check_word : (t n : ℕ) → t ≡ n → word_of (loop_check n) ≡ word 41 0 t 0
-unfolding word_of
-check_word t n e = rw e
-
-pub end_word : word_of loop_end ≡ word 42 0 0 0
-unfolding word_of
-end_word = refl
-
-pub jump_word : (t n : ℕ) → t ≡ n → word_of (jump n) ≡ word 32 0 t 0
-unfolding word_of
-jump_word t n e = rw e
 
 -- less code, same state
 pub shorter : (o k l : List Item) (os : List OpenCall) (s : State) → length k ≤ length l → Fits (mk o l false os s) → Fits (mk o k false os s)
@@ -109,7 +93,7 @@ module _ (o k : List Item) (os : List OpenCall) (st : State) (f : Lowering) (c :
       let l2 = length-append k (instr (loop_begin 0) ∷ x.code) in
       let l3 = length-append k (instr (loop_begin (suc (suc check))) ∷ tail) in
       let l4 = length-append body (instr (loop_check (suc (past k 0))) ∷ instr loop_end ∷ []) in
-      let l5 = length_aimed check (suc check) x.code in
+      let l5 = length-map x.code (aim check (suc check)) in
       (omega arith, omega arith)
 
   fit3 : Fits (mk o final false os x.state) → Fits (B.G3 o k os st loop_begin u f)
@@ -118,7 +102,7 @@ module _ (o k : List Item) (os : List OpenCall) (st : State) (f : Lowering) (c :
 module _ {tree : List ℕ} (c : Counts) where
   loop_keep : (o k : List Item) (os : List OpenCall) (st : State) (f : Lowering) (at : ℕ) (h : Held) → at ≡ past k 0 → Fits (mk o (final o k os st f c) false os (x o k os st f c).state)
       → Content tree (opens true c) h (B.G3 o k os st loop_begin (opens true c) f) → Content tree (opens true c) (L.loop_closed at h) (mk o (final o k os st f c) false os (x o k os st f c).state)
-  unfolding L.loop_closed
+  unfolding L.loop_closed word_of
   loop_keep o k os st f at h ea q r =
       let X = x o k os st f c in
       let ck = check o k os st f c in
@@ -143,8 +127,8 @@ module _ {tree : List ℕ} (c : Counts) where
       (aim_at o hd X.code false os X.state h (after at) ck (suc ck) (let ha = head_at o k os st f c in omega (arith, ha, ea, pk, fc, l1)) q3' r3)) in
       let q6 : Fits (mk o (E6 o k os st f c) false os X.state) = shorter o (E6 o k os st f c) (final o k os st f c) os X.state (omega arith) q in
       let q5 : Fits (mk o ((hd ++ bd) ++ (lc ∷ [])) false os X.state) = shorter o ((hd ++ bd) ++ (lc ∷ [])) (E6 o k os st f c) os X.state (omega (arith, length-append ((hd ++ bd) ++ (lc ∷ [])) (instr loop_end ∷ []))) q6 in
-      let r5 = puts (loop_check (suc (past k 0))) (check_word (at + 1) (suc (past k 0)) (omega arith)) o (hd ++ bd) os X.state g q5 r4 in
-      let r6 = puts loop_end end_word o ((hd ++ bd) ++ (lc ∷ [])) os X.state (L.instr 41 0 (at + 1) 0 g) q6 r5 in
+      let r5 = puts (loop_check (suc (past k 0))) (let e : at + 1 ≡ suc (past k 0) = omega arith in rw e) o (hd ++ bd) os X.state g q5 r4 in
+      let r6 = puts loop_end refl o ((hd ++ bd) ++ (lc ∷ [])) os X.state (L.instr 41 0 (at + 1) 0 g) q6 r5 in
       let w = L.instr 42 0 0 0 (L.instr 41 0 (at + 1) 0 g) in
       let j = joined o k os st f c in
       let r7 = land_at o k (tail o k os st f c) (instr (loop_begin 0)) (instr (loop_begin (suc (suc ck)))) false os X.state w (lead_front loop_leads (suc (suc ck)) ∙ sym (lead_front loop_leads 0)) (lead_back loop_leads (suc (suc ck)) ∙ sym (at_end o k os st f c)) (subst (λ (l : List Item). Fits (mk o l false os X.state)) j q6) (subst (λ (l : List Item). Content tree (opens true c) w (mk o l false os X.state)) j r6) in

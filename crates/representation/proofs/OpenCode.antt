@@ -1,14 +1,8 @@
 -- The open code: an instruction more, a Push that waits, a target set. Assumes nothing.
+use Rattle.std.proofs.Common.{le-leb, rules, ◌≡◌, refl, sym, ap, subst, ◌∙◌, Bool, true, false, cond, List, [], ◌∷◌, ◌++◌, append_assoc, append-nil, ℕ, ◌+◌, ◌*◌, ◌%◌, ◌≤◌, arith, length, get_or, length-append}
 use Rattle.answers.specs.Refusals.{number_of}
 use Rattle.answers.specs.declared.refusals.Refusal.{Refusal}
-use mathlib.Core.Path.{◌≡◌, refl, sym, ap, subst, ◌∙◌}
-use mathlib.Core.Bool.{Bool, true, false, cond, true≢false}
-use mathlib.Core.List.{List, [], ◌∷◌, ◌++◌, append_assoc, append-nil}
-use Prim.Native.Nat.{ℕ, ◌+◌, ◌*◌, ◌%◌, ◌≤◌}
-use native.Mathlib.Omega.{arith}
-use lib.ListN.{length, get_or, length-append}
 use lib.Seq.{sets}
-use borrow.Author.Tests.{le-leb}
 use Rattle.program.specs.Instruction.{Instruction, push}
 use Rattle.program.specs.Program.{Counts}
 use Rattle.program.specs.Image.{word_of}
@@ -19,40 +13,26 @@ use Rattle.semantics.proofs.Sizes.{weigh_length}
 use Rattle.semantics.specs.State.{Item, instr, State, fail}
 use Rattle.semantics.specs.Pieces.{Lowered, emit, flush, put, nothing, failing}
 use Rattle.code.specs.Segments as G
-use Rattle.workspace.specs.Layout.{OPEN, CALLS}
-use Rattle.builder.specs.Fields.{set_top, set_waiting}
+use Rattle.workspace.specs.Layout.{OPEN, FINISHED}
+use Rattle.builder.specs.Fields.{set_waiting}
 use Rattle.builder.specs.Steps as W
-use Rattle.builder.specs.Steps.{Held}
+use Rattle.lowering.specs.Held.{Held}
 use Rattle.representation.proofs.Rows.{Rows, Apart, rows_agree, rows_snoc, sets_apart, sets_stored}
 use Rattle.representation.proofs.Represents.{ItemAt, front_of, back_of, OpenCall, Abs, Fits, Table, Tables, Content, Moves, Does, run, on_state, finished_code}
-use Rattle.representation.proofs.Keeps.{agree_above, item_local, finished_keep, consts_keep, posts_keep, hashes_keep, names_keep, temps_keep, members_keep, stores_keep, calls_keep, open_keep}
-use Rattle.representation.proofs.Laws.{does, both, fails_move, waits}
+use Rattle.representation.proofs.Keeps.{agree_above, item_local, finished_keep, code_changed}
+use Rattle.representation.proofs.Laws.{ends, both, fails_move, waits}
 
 -- only words of the open code have changed
 module _ {tree ws vs : List ℕ} {top base finished consts posts hashes names temps members stores paths calls arguments : ℕ} {outer code : List Item} {os : List OpenCall} where
-  pub open_changed : (A : Abs) → Fits A → {lo hi : ℕ} → Apart ws vs lo hi → hi ≤ 4096 → {top' base' : ℕ} {outer' code' : List Item} → base' ≡ length outer' → Table 2 (ItemAt vs) OPEN top' (outer' ++ code')
+  pub open_changed : (A : Abs) → Fits A → {lo hi : ℕ} → Apart ws vs lo hi → hi ≤ FINISHED → {top' base' : ℕ} {outer' code' : List Item} → base' ≡ length outer' → Table 2 (ItemAt vs) OPEN top' (outer' ++ code')
       → Tables tree ws top base finished consts posts hashes names temps members stores paths calls arguments outer code os A.state.pools
       → Tables tree vs top' base' finished consts posts hashes names temps members stores paths calls arguments outer' code' os A.state.pools
   open_changed A f a b e t k =
-      let P = A.state.pools in
-      let fc = f.code in
-      record {
+      code_changed tree ws vs A f a (omega arith) k {segments = A.state.pools.segments} (record {
         open_base = e;
         open_code = t;
-        the_finished_code = finished_keep ws vs finished (finished_code P) (omega arith) (agree_above a (omega arith)) k.the_finished_code;
-        the_consts = consts_keep ws vs consts P.consts f.consts (agree_above a (omega arith)) k.the_consts;
-        the_posts = posts_keep ws vs posts P.posts f.posts (agree_above a (omega arith)) k.the_posts;
-        the_hashes = hashes_keep ws vs hashes P.hashes f.hashes (agree_above a (omega arith)) k.the_hashes;
-        the_names = names_keep ws vs tree names P.names f.names (agree_above a (omega arith)) k.the_names;
-        the_temps = temps_keep ws vs temps P.temps f.temps (agree_above a (omega arith)) k.the_temps;
-        the_members = members_keep ws vs tree members P.members f.members (agree_above a (omega arith)) k.the_members;
-        the_stores = stores_keep ws vs stores paths P.stores f.stores (agree_above a (omega arith)) (agree_above a (omega arith)) k.the_stores;
-        path_count = k.path_count;
-        call_count = k.call_count;
-        the_calls = calls_keep ws vs arguments CALLS 0 P.calls (agree_above a (omega arith)) (agree_above a (omega arith)) k.the_calls;
-        the_open = open_keep ws vs arguments calls P.calls os k.call_count k.the_calls (agree_above a (omega arith)) (agree_above a (omega arith)) k.the_open;
-        argument_count = k.argument_count;
-      }
+        the_finished_code = finished_keep ws vs finished (finished_code A.state.pools) (omega arith) (agree_above a b) k.code_held.the_finished_code;
+      })
 
 -- ---- an item more
 
@@ -61,26 +41,18 @@ add_item x A = record { outer = A.outer; code = A.code ++ (x ∷ []); wait = A.w
 
 -- less code fits as well
 pub back_code : (A B : Abs) → A.state ≡ B.state → A.open_calls ≡ B.open_calls → length A.outer + length A.code ≤ length B.outer + length B.code → Fits B → Fits A
-back_code A B e o l f =
-    let g : Fits (record { outer = B.outer; code = B.code; wait = B.wait; open_calls = A.open_calls; state = A.state }) = subst (λ (s : State). Fits (record { outer = B.outer; code = B.code; wait = B.wait; open_calls = A.open_calls; state = s })) (sym e) (subst (λ (y : List OpenCall). Fits (record { outer = B.outer; code = B.code; wait = B.wait; open_calls = y; state = B.state })) (sym o) f) in
-    record { code = omega (arith, l, g.code); consts = g.consts; posts = g.posts; hashes = g.hashes; names = g.names; temps = g.temps; members = g.members; stores = g.stores; paths = g.paths; calls = g.calls; arguments = g.arguments; operands = g.operands; loops = g.loops; handlers = g.handlers }
+back_code A B e o l f = search rules
 
 pub back_add : (x : Item) (A : Abs) → Fits (add_item x A) → Fits A
 back_add x A f = back_code A (add_item x A) refl refl (omega (arith, length-append A.code (x ∷ []))) f
 
-emitted_is : (front back : ℕ) (h : Held) → h.0.top + 1 ≤ 2048 → W.emitted front back h ≡ (set_top (h.0.top + 1) h.0, sets h.1 (h.0.top * 2) (front ∷ back ∷ []))
-unfolding W.emitted G.emitted G.emitted_top
-emitted_is front back h l = rw (le-leb (h.0.top + 1) 2048 l)
-
 pub emits : {tree : List ℕ} {c : Counts} (x : Item) → Moves tree (add_item x) c c (W.emitted (front_of x) (back_of x))
+unfolding W.emitted G.emitted G.emitted_top
 emits {tree} {c} x = record {
   back = back_add x;
   keep = λ A h f k.
-      let g = back_add x A f in
       let t = k.tables in
-      let n = t.open_code.count in
       let lc = length-append A.outer A.code in
-      let fc = f.code in
       let l1 = length-append A.code (x ∷ []) in
       let room : h.0.top + 1 ≤ 2048 = omega arith in
       let at = h.0.top * 2 in
@@ -90,16 +62,16 @@ emits {tree} {c} x = record {
       let en = k.enough in
       let p0 : OPEN + weigh 2 (A.outer ++ A.code) ≡ at + 0 = omega arith in
       let p1 : OPEN + weigh 2 (A.outer ++ A.code) + 1 ≡ at + 1 = omega arith in
-      let old : Rows 2 (ItemAt vs) OPEN (A.outer ++ A.code) = rows_agree 2 ItemAt item_local h.1 vs OPEN (A.outer ++ A.code) (λ j u v. a.below j (omega arith)) t.open_code.rows in
+      let old : Rows 2 (ItemAt vs) OPEN (A.outer ++ A.code) = rows_agree 2 ItemAt item_local h.1 vs OPEN (A.outer ++ A.code) (λ j u v. a.below j (omega arith)) t.code_held.open_code.rows in
       let new : ItemAt vs (OPEN + weigh 2 (A.outer ++ A.code)) x = (ap (λ (j : ℕ). get_or vs j 0) p0 ∙ sets_stored h.1 at (front_of x ∷ back_of x ∷ []) 0 (omega arith) (omega arith), ap (λ (v : ℕ). v % 4294967296) (ap (λ (j : ℕ). get_or vs j 0) p1 ∙ sets_stored h.1 at (front_of x ∷ back_of x ∷ []) 1 (omega arith) (omega arith))) in
       let e = append_assoc A.outer A.code (x ∷ []) in
       let rows : Rows 2 (ItemAt vs) OPEN (A.outer ++ (A.code ++ (x ∷ []))) = subst (λ (l : List Item). Rows 2 (ItemAt vs) OPEN l) e (rows_snoc 2 (ItemAt vs) OPEN (A.outer ++ A.code) x old new) in
       let l2 = length-append A.outer (A.code ++ (x ∷ [])) in
-      subst (λ (y : Held). Content tree c y (add_item x A)) (sym (emitted_is (front_of x) (back_of x) h room))
+      rw (le-leb (h.0.top + 1) 2048 room)
       (record {
         enough = omega (arith, a.same_length, en);
         beside = k.beside;
-        tables = open_changed (add_item x A) f a (omega arith) t.open_base (record { count = omega arith; rows = rows }) t;
+        tables = open_changed (add_item x A) f a (omega arith) t.code_held.open_base (record { count = omega arith; rows = rows }) t;
       });
 }
 
@@ -122,43 +94,19 @@ back_flush A f = back_code A (flush_a A) refl refl (omega (arith, length_flushed
 
 -- the Push no longer waits
 pub stopped : {tree : List ℕ} {c : Counts} (A : Abs) (h : Held) → Content tree c h A → Content tree c (set_waiting false h.0, h.1) (waits false A)
-stopped A h k =
-    let b = k.beside in
-    record {
-      enough = k.enough;
-      beside = record { waiting_is = refl; stack_is = b.stack_is; loops_is = b.loops_is; handlers_is = b.handlers_is; stack_max = b.stack_max; loops_max = b.loops_max; handlers_max = b.handlers_max; stack_within = b.stack_within; loops_within = b.loops_within; handlers_within = b.handlers_within; bits_are = b.bits_are; float_loop_is = b.float_loop_is; number_is = b.number_is };
-      tables = k.tables;
-    }
+stopped A h k = search rules
 
-push_front : front_of (instr push) ≡ 0x0d00_0000
-unfolding word_of
-push_front = refl
-
-push_back : back_of (instr push) ≡ 0
-unfolding word_of
-push_back = refl
-
-flush_go : {tree : List ℕ} {c : Counts} (w b : Bool) (A : Abs) (h : Held) → h.0.waiting ≡ w → A.wait ≡ b → w ≡ b → Fits (record { outer = A.outer; code = flushed_code b A.code; wait = false; open_calls = A.open_calls; state = A.state }) → Content tree c h A
-    → Content tree c (cond w (W.emitted 0x0d00_0000 0 (set_waiting false h.0, h.1)) h) (record { outer = A.outer; code = flushed_code b A.code; wait = false; open_calls = A.open_calls; state = A.state })
-unfolding flushed_code
-flush_go {tree} {c} true true A h e d q f k =
-    let m = (emits {tree = tree} {c = c} (instr push)).keep (waits false A) (set_waiting false h.0, h.1) f (stopped A h k) in
-    rw (push_front, push_back) at m
-flush_go true false A h e d q f k = absurd (true≢false q)
-flush_go false true A h e d q f k = absurd (true≢false (sym q))
-flush_go {tree} {c} false false A h e d q f k =
-    let b = k.beside in
-    record {
-      enough = k.enough;
-      beside = record { waiting_is = e; stack_is = b.stack_is; loops_is = b.loops_is; handlers_is = b.handlers_is; stack_max = b.stack_max; loops_max = b.loops_max; handlers_max = b.handlers_max; stack_within = b.stack_within; loops_within = b.loops_within; handlers_within = b.handlers_within; bits_are = b.bits_are; float_loop_is = b.float_loop_is; number_is = b.number_is };
-      tables = k.tables;
-    }
+flush_go : {tree : List ℕ} {c : Counts} (b : Bool) (A : Abs) (h : Held) → h.0.waiting ≡ b → Fits (record { outer = A.outer; code = flushed_code b A.code; wait = false; open_calls = A.open_calls; state = A.state }) → Content tree c h A
+    → Content tree c (cond b (W.emitted 0x0d00_0000 0 (set_waiting false h.0, h.1)) h) (record { outer = A.outer; code = flushed_code b A.code; wait = false; open_calls = A.open_calls; state = A.state })
+unfolding flushed_code word_of
+flush_go {tree} {c} true A h e f k = (emits {tree = tree} {c = c} (instr push)).keep (waits false A) (set_waiting false h.0, h.1) f (stopped A h k)
+flush_go false A h e f k = search rules
 
 pub flushes : {tree : List ℕ} {c : Counts} → Moves tree flush_a c c W.flushed
 unfolding W.flushed
-flushes = record {
+flushes {tree} {c} = record {
   back = back_flush;
-  keep = λ A h f k. flush_go h.0.waiting A.wait A h refl refl k.beside.waiting_is f k;
+  keep = λ A h f k. let e = k.beside.waiting_is in subst (λ (w : Bool). Content tree c (cond w (W.emitted 0x0d00_0000 0 (set_waiting false h.0, h.1)) h) (flush_a A)) (sym e) (flush_go A.wait A h e f k);
 }
 
 abbrev pub at_a : (ℕ → State → Lowered) → Abs → Abs
@@ -177,21 +125,21 @@ flush_is f c A = flush_eq A.wait A.outer A.code A.open_calls A.state (f c)
 module _ {tree : List ℕ} {c : Counts} where
   -- an item, behind a Push if one waits
   pub item_does : (x : Item) → Does tree (λ k. flush λ n s. emit (x ∷ []) s) c (λ h. W.emitted (front_of x) (back_of x) (W.flushed h))
-  item_does x = does _ c (λ A. sym (flush_is (λ k n s. emit (x ∷ []) s) c A)) (both flushes (emits x))
+  item_does x = ends _ (λ A. sym (flush_is (λ k n s. emit (x ∷ []) s) c A)) (both flushes (emits x))
 
   pub put_does : (i : Instruction) → Does tree (put i) c (W.put (front_of (instr i)) (back_of (instr i)))
   unfolding W.put
   put_does i = item_does (instr i)
 
   pub nothing_does : Does tree nothing c W.flushed
-  nothing_does = does _ c (λ A. nil A ∙ sym (flush_is (λ k n s. emit [] s) c A)) flushes
+  nothing_does = ends _ (λ A. nil A ∙ sym (flush_is (λ k n s. emit [] s) c A)) flushes
     where
       nil : (A : Abs) → flush_a A ≡ at_a (λ n s. emit [] s) (flush_a A)
       nil A = rw append-nil
 
   pub failing_does : (why : Refusal) → Does tree (failing (number_of why)) c (W.failed why)
   unfolding W.failed
-  failing_does why = does _ c (λ A. nil A ∙ sym (flush_is (λ k n s. emit [] (fail (number_of why) s)) c A)) (both flushes (fails_move why))
+  failing_does why = ends _ (λ A. nil A ∙ sym (flush_is (λ k n s. emit [] (fail (number_of why) s)) c A)) (both flushes (fails_move why))
     where
       nil : (A : Abs) → on_state (fail (number_of why)) (flush_a A) ≡ at_a (λ n s. emit [] (fail (number_of why) s)) (flush_a A)
       nil A = rw append-nil

@@ -1,14 +1,8 @@
 -- Logic and arithmetic: each rule is what its definition says. Assumes nothing.
+use Rattle.std.proofs.Common.{◌≡◌, refl, sym, subst, Bool, cond, List, [], ◌∷◌, ℕ, zero, suc, ◌+◌, ◌-◌, ◌<◌, arith, length, eqb, ltb, leb, lt-ltb, le-ltb, le-leb}
 use Rattle.answers.specs.declared.refusals.Refusal.TheVariants as Refusal
-use mathlib.Core.Path.{◌≡◌, refl, sym, subst}
-use mathlib.Core.Bool.{Bool, cond}
-use mathlib.Core.List.{List, [], ◌∷◌}
-use Prim.Native.Nat.{ℕ, zero, suc, ◌+◌, ◌-◌, ◌<◌}
-use native.Mathlib.Omega.{arith}
 use native.Mathlib.Decide.{dec_lt}
-use lib.Dec.{eqb, ltb, leb}
-use lib.ListN.{length}
-use borrow.Author.Tests.{lt-ltb, le-ltb, le-leb, lt-leb}
+use borrow.Author.Tests.{lt-leb}
 use Rattle.wire.specs.Bytes.{be8}
 use Rattle.ast.specs.Node.{payload_at, count_at, first_at, next_at}
 use Rattle.program.specs.Kinds.{USES_ARROW}
@@ -30,36 +24,15 @@ use Rattle.lowering.specs.Parts.{Step}
 use Rattle.builder.specs.Steps.{still}
 use Rattle.lowering.specs.Steps as Y
 use Rattle.lowering.specs.Rules as R
-use Rattle.representation.proofs.Represents.{Does}
+use Rattle.representation.proofs.Represents.{Ends, Does}
 use Rattle.representation.proofs.Interning.{const_does, hash_does, post_does}
-use Rattle.representation.proofs.Laws.{thens, flagged_does, same_move, operand_move, popped_move, Ends, stays, lowers, pushes}
+use Rattle.representation.proofs.Laws.{thens, flagged_does, same_move, operand_move, popped_move, lowers, pushes}
 use Rattle.representation.proofs.OpenCode.{failing_does}
-use Rattle.representation.proofs.Targets.{Leads}
+use Rattle.representation.proofs.Targets.{Leads, leads}
 use Rattle.representation.proofs.Branches.{instr_does, guarded_does}
-use Rattle.representation.proofs.Arguments.{Child, Children}
-use Rattle.representation.proofs.Queries.{children_count}
+use Rattle.representation.proofs.Arguments.{Child, Children, children_count}
 use Rattle.representation.proofs.Sound.{as_hash_lem, as_math_lem, float_same, const_same}
 use Rattle.representation.proofs.Kin.{one_rel, some_rel, two_rel, one_left, nothing_move, put_post_lem, post_behind, sets_move, not_float_move, sets_not_move, pop_one}
-
-words : (o k q : ℕ) → (word_of (N.plain (N.cmp_const o k q)) ≡ word 24 o k q) × (word_of (N.taking (N.cmp o q)) ≡ word 23 o 0 q) × (word_of (N.plain (N.eq_const o k q)) ≡ word 26 o k q) × (word_of (N.plain (N.eq_hash o k q)) ≡ word 27 o k q) × (word_of (N.taking (N.eq o q)) ≡ word 25 o 0 q) × (word_of (N.plain N.add_acc) ≡ word 17 0 0 0) × (word_of (N.taking (N.add_last q)) ≡ word 18 0 0 q) × (word_of (N.taking (N.mul q)) ≡ word 19 0 0 q) × (word_of (N.taking (N.div q)) ≡ word 21 0 0 q) × (word_of (N.taking (N.host_math k o q)) ≡ word 22 o k q) × (word_of (N.plain (N.pointer_leave q)) ≡ word 38 0 0 q) × (word_of (N.plain (N.negate q)) ≡ word 15 0 0 q) × (word_of (N.plain (N.not q)) ≡ word 16 0 0 q) × (word_of (N.plain (N.and_last q)) ≡ word 30 0 0 q) × (word_of (N.plain (N.or_last q)) ≡ word 31 0 0 q)
-unfolding word_of
-words o k q = (refl, refl, refl, refl, refl, refl, refl, refl, refl, refl, refl, refl, refl, refl, refl)
-
-pub and_leads : (q : ℕ) → Leads (N.guard (N.and_step q)) 28 0 q
-unfolding word_of
-and_leads q = record { fields = λ t. refl }
-
-pub or_leads : (q : ℕ) → Leads (N.guard (N.or_step q)) 29 0 q
-unfolding word_of
-or_leads q = record { fields = λ t. refl }
-
-arrow_leads : (q : ℕ) → Leads (N.guard (N.pointer_enter q)) 37 0 q
-unfolding word_of
-arrow_leads q = record { fields = λ t. refl }
-
-div_leads : (b : Bool) → Leads (N.guard (N.div_guard b)) 20 (bit b) 0
-unfolding word_of
-div_leads b = record { fields = λ t. refl }
 
 -- j operands more
 abbrev ups : ℕ → Counts → Counts
@@ -77,7 +50,7 @@ module _ (tree : List ℕ) (E : ℕ → Bool → Step) (C : ℕ → NameRef → 
   -- a, Push, b and what takes both
   binary_does : {c : Counts} {a b : Lowerings} {g : Lowering} {G : Step} (q : ℕ) (l : Bool) → Child tree E C Z a q → Child tree E C Z b (next_at tree q) → Does tree g (operand+ c) G → Does tree (pushed (a.expr l) (b.expr l ⨾ g)) c (λ h. still (Y.popped 1) (G (R.binary tree E C Z q l h)))
   unfolding R.binary
-  binary_does {c} q l ca cb d = lowers (pushes (ca.expr_is l c) (stays (thens (cb.expr_is l (operand+ c)) d))) (pop_one c)
+  binary_does {c} q l ca cb d = lowers (pushes (ca.expr_is l c) ((thens (cb.expr_is l (operand+ c)) d))) (pop_one c)
 
   -- ---- and, or
 
@@ -85,28 +58,25 @@ module _ (tree : List ℕ) (E : ℕ → Bool → Step) (C : ℕ → NameRef → 
     pub junction_does : {c : Counts} (a : Lowerings) (ys : List Lowerings) (j q : ℕ) (l : Bool) → Child tree E C Z a q → Children tree E C Z ys j (next_at tree q) → Does tree (D.logic step last a ys l) c (R.operands tree E C Z op end v j q l)
     unfolding D.logic R.operands
     junction_does {c} a [] zero q l ca k = thens (ca.expr_is l c) (instr_does (N.plain last) ends)
-    junction_does a [] (suc j) q l ca k = absurd k
-    junction_does a (b ∷ ys) zero q l ca k = absurd k
     junction_does {c} a (b ∷ ys) (suc j) q l ca k = thens (ca.expr_is l c) (guarded_does step same leads same_move (junction_does b ys j (next_at tree q) l k.0 k.1) nothing_move)
+    junction_does a ys j q l ca k = absurd k
 
   -- ---- sums
 
   module _ (p : ℕ) where
     addition_does : {c : Counts} (a : Lowerings) (ys : List Lowerings) (j q : ℕ) (l : Bool) → Child tree E C Z a q → Children tree E C Z ys j (next_at tree q) → Does tree (D.terms (L.post_bits tree p) a ys l) c (R.terms tree E C Z p j q l)
-    unfolding D.terms R.terms
-    addition_does {c} a [] zero q l ca k = thens (ca.expr_is l c) (put_post_lem p (λ v. N.taking (N.add_last v)) 18 0 0 (λ v. (words 0 0 v).6))
-    addition_does a [] (suc j) q l ca k = absurd k
-    addition_does a (b ∷ ys) zero q l ca k = absurd k
-    addition_does {c} a (b ∷ ys) (suc j) q l ca k = thens (ca.expr_is l c) (thens (instr_does (N.plain N.add_acc) (words 0 0 0).5) (addition_does b ys j (next_at tree q) l k.0 k.1))
+    unfolding D.terms R.terms word_of
+    addition_does {c} a [] zero q l ca k = thens (ca.expr_is l c) (put_post_lem p (λ v. N.taking (N.add_last v)) 18 0 0 (λ v. refl))
+    addition_does {c} a (b ∷ ys) (suc j) q l ca k = thens (ca.expr_is l c) (thens (instr_does (N.plain N.add_acc) refl) (addition_does b ys j (next_at tree q) l k.0 k.1))
+    addition_does a ys j q l ca k = absurd k
 
     -- ---- host functions: j operands are left open
 
     hosted_ends : (f k : ℕ) {c : Counts} (a : Lowerings) (ys : List Lowerings) (j q : ℕ) (l : Bool) → Child tree E C Z a q → Children tree E C Z ys j (next_at tree q) → Ends tree (D.host_math f k (L.post_bits tree p) a ys l) c (ups j c) (R.host_arguments tree E C Z p f k j q l)
-    unfolding D.host_math R.host_arguments
-    hosted_ends f k {c} a [] zero q l ca ks = stays (thens (ca.expr_is l c) (put_post_lem p (λ v. N.taking (N.host_math f k v)) 22 k f (λ v. (words k f v).9)))
-    hosted_ends f k a [] (suc j) q l ca ks = absurd ks
-    hosted_ends f k a (b ∷ ys) zero q l ca ks = absurd ks
+    unfolding D.host_math R.host_arguments word_of
+    hosted_ends f k {c} a [] zero q l ca ks = thens (ca.expr_is l c) (put_post_lem p (λ v. N.taking (N.host_math f k v)) 22 k f (λ v. refl))
     hosted_ends f k {c} a (b ∷ ys) (suc j) q l ca ks = pushes (ca.expr_is l c) (hosted_ends f k b ys j (next_at tree q) l ks.0 ks.1)
+    hosted_ends f k a ys j q l ca ks = absurd ks
 
     hosted_does : (f k : ℕ) {c : Counts} (a : Lowerings) (ys : List Lowerings) (j q : ℕ) (l : Bool) → Child tree E C Z a q → Children tree E C Z ys j (next_at tree q) → Does tree (D.host_math f k (L.post_bits tree p) a ys l) c (λ h. still (Y.popped j) (R.host_arguments tree E C Z p f k j q l h))
     hosted_does f k {c} a ys j q l ca ks = let u = ups_are j c in lowers (hosted_ends f k a ys j q l ca ks) (popped_move c j u.0 u.1 u.2)
@@ -115,86 +85,88 @@ module _ (tree : List ℕ) (E : ℕ → Bool → Step) (C : ℕ → NameRef → 
 
   module _ (p : ℕ) (xs : List Lowerings) (k : Children tree E C Z xs (count_at tree p) (first_at tree p)) {c : Counts} (l : Bool) where
     pub compare_does : (o : ℕ) → Does tree (P.some xs (failing 7) λ a ys. with_post (L.post_bits tree p) λ q. P.some ys (a.expr l ⨾ with_const (P.const_of (payload_at tree p)) (λ k. put (N.plain (N.cmp_const o k q)))) λ b zs. pushed (a.expr l) (b.expr l ⨾ put (N.taking (N.cmp o q)))) c (R.compare tree E C Z o p l)
-    unfolding R.compare R.compare_const
-    compare_does o = some_rel tree E C Z c (failing 7) (failing_does Refusal.Failed) (λ a ys. with_post (L.post_bits tree p) λ q. P.some ys (a.expr l ⨾ with_const (P.const_of (payload_at tree p)) (λ k. put (N.plain (N.cmp_const o k q)))) λ b zs. pushed (a.expr l) (b.expr l ⨾ put (N.taking (N.cmp o q)))) xs (count_at tree p) (first_at tree p) k (λ a ys j e ca ks. post_does (L.post_bits tree p) (λ q.
+    unfolding R.compare R.compare_const word_of
+    compare_does o = some_rel tree E C Z c _ (failing_does Refusal.Failed) _ xs (count_at tree p) (first_at tree p) k (λ a ys j e ca ks. post_does (L.post_bits tree p) (λ q.
         subst (λ (t : Bool). Does tree (P.some ys (a.expr l ⨾ with_const (P.const_of (payload_at tree p)) (λ k. put (N.plain (N.cmp_const o k q)))) λ b zs. pushed (a.expr l) (b.expr l ⨾ put (N.taking (N.cmp o q)))) c (λ g. cond t (L.with_const (Q.const_of (payload_ref_at tree p)) (λ k. L.instr 24 o k q) (E (first_at tree p) l g)) (still (Y.popped 1) (L.instr 23 o 0 q (R.binary tree E C Z (first_at tree p) l g))))) (one_left (count_at tree p) j e)
-        (some_rel tree E C Z c (a.expr l ⨾ with_const (P.const_of (payload_at tree p)) (λ k. put (N.plain (N.cmp_const o k q))))
-        (thens (ca.expr_is l c) (subst (λ (v : ℕ). Does tree (with_const (P.const_of (payload_at tree p)) (λ k. put (N.plain (N.cmp_const o k q)))) c (L.with_const v (λ k. L.instr 24 o k q))) (const_same tree p) (const_does (P.const_of (payload_at tree p)) (λ i. instr_does (N.plain (N.cmp_const o i q)) (words o i q).0))))
-        (λ b zs. pushed (a.expr l) (b.expr l ⨾ put (N.taking (N.cmp o q)))) ys j (next_at tree (first_at tree p)) ks (λ b zs i d cb ls. binary_does (first_at tree p) l ca cb (instr_does (N.taking (N.cmp o q)) (words o 0 q).1)))))
+        (some_rel tree E C Z c _
+        (thens (ca.expr_is l c) (subst (λ (v : ℕ). Does tree (with_const (P.const_of (payload_at tree p)) (λ k. put (N.plain (N.cmp_const o k q)))) c (L.with_const v (λ k. L.instr 24 o k q))) (const_same tree p) (const_does (P.const_of (payload_at tree p)) (λ i. instr_does (N.plain (N.cmp_const o i q)) refl))))
+        (λ b zs. pushed (a.expr l) (b.expr l ⨾ put (N.taking (N.cmp o q)))) ys j (next_at tree (first_at tree p)) ks (λ b zs i d cb ls. binary_does (first_at tree p) l ca cb (instr_does (N.taking (N.cmp o q)) refl)))))
 
     equal_const_lem : (o q : ℕ) → Does tree (D.equal_const o (payload_at tree p) q) c (R.equal_const tree p o q)
-    unfolding D.equal_const R.equal_const
+    unfolding D.equal_const R.equal_const word_of
     equal_const_lem o q = as_hash_lem p
-        (subst (λ (v : ℕ). Does tree (with_const (P.float_of (payload_at tree p)) (λ k. put (N.plain (N.eq_const o k q)))) c (L.with_const v (λ k. L.instr 26 o k q))) (float_same tree p) (const_does (P.float_of (payload_at tree p)) (λ i. instr_does (N.plain (N.eq_const o i q)) (words o i q).2)))
-        (λ v. flagged_does S.not_float_only Y.not_float_only not_float_move (hash_does v (λ i. instr_does (N.plain (N.eq_hash o i q)) (words o i q).3)))
+        (rw (← float_same tree p) (const_does (P.float_of (payload_at tree p)) (λ i. instr_does (N.plain (N.eq_const o i q)) refl)))
+        (λ v. flagged_does S.not_float_only Y.not_float_only not_float_move (hash_does v (λ i. instr_does (N.plain (N.eq_hash o i q)) refl)))
 
     pub equal_does : (o : ℕ) → Does tree (P.some xs (failing 7) λ a ys. with_post (L.post_bits tree p) λ q. P.some ys (a.expr l ⨾ D.equal_const o (payload_at tree p) q) λ b zs. pushed (a.expr l) (b.expr l ⨾ put (N.taking (N.eq o q)))) c (R.equal tree E C Z o p l)
-    unfolding R.equal
-    equal_does o = some_rel tree E C Z c (failing 7) (failing_does Refusal.Failed) (λ a ys. with_post (L.post_bits tree p) λ q. P.some ys (a.expr l ⨾ D.equal_const o (payload_at tree p) q) λ b zs. pushed (a.expr l) (b.expr l ⨾ put (N.taking (N.eq o q)))) xs (count_at tree p) (first_at tree p) k (λ a ys j e ca ks. post_does (L.post_bits tree p) (λ q.
+    unfolding R.equal word_of
+    equal_does o = some_rel tree E C Z c _ (failing_does Refusal.Failed) _ xs (count_at tree p) (first_at tree p) k (λ a ys j e ca ks. post_does (L.post_bits tree p) (λ q.
         subst (λ (t : Bool). Does tree (P.some ys (a.expr l ⨾ D.equal_const o (payload_at tree p) q) λ b zs. pushed (a.expr l) (b.expr l ⨾ put (N.taking (N.eq o q)))) c (λ g. cond t (R.equal_const tree p o q (E (first_at tree p) l g)) (still (Y.popped 1) (L.instr 25 o 0 q (R.binary tree E C Z (first_at tree p) l g))))) (one_left (count_at tree p) j e)
-        (some_rel tree E C Z c (a.expr l ⨾ D.equal_const o (payload_at tree p) q) (thens (ca.expr_is l c) (equal_const_lem o q))
-        (λ b zs. pushed (a.expr l) (b.expr l ⨾ put (N.taking (N.eq o q)))) ys j (next_at tree (first_at tree p)) ks (λ b zs i d cb ls. binary_does (first_at tree p) l ca cb (instr_does (N.taking (N.eq o q)) (words o 0 q).4)))))
+        (some_rel tree E C Z c _ (thens (ca.expr_is l c) (equal_const_lem o q))
+        (λ b zs. pushed (a.expr l) (b.expr l ⨾ put (N.taking (N.eq o q)))) ys j (next_at tree (first_at tree p)) ks (λ b zs i d cb ls. binary_does (first_at tree p) l ca cb (instr_does (N.taking (N.eq o q)) refl)))))
 
     pub and_does : Does tree (P.some xs (failing 7) λ a ys. with_post (L.post_bits tree p) λ q. D.logic (N.and_step q) (N.and_last q) a ys l) c (R.logic tree E C Z 28 30 p l)
-    unfolding R.logic
-    and_does = some_rel tree E C Z c (failing 7) (failing_does Refusal.Failed) (λ a ys. with_post (L.post_bits tree p) λ q. D.logic (N.and_step q) (N.and_last q) a ys l) xs (count_at tree p) (first_at tree p) k (λ a ys j e ca ks. post_does (L.post_bits tree p) (λ q.
-        subst (λ (m : ℕ). Does tree (D.logic (N.and_step q) (N.and_last q) a ys l) c (R.operands tree E C Z 28 30 q m (first_at tree p) l)) (less (count_at tree p) j e) (junction_does (N.and_step q) (N.and_last q) 28 30 q (and_leads q) (words 0 0 q).13 a ys j (first_at tree p) l ca ks)))
+    unfolding R.logic word_of
+    and_does = some_rel tree E C Z c _ (failing_does Refusal.Failed) _ xs (count_at tree p) (first_at tree p) k (λ a ys j e ca ks. post_does (L.post_bits tree p) (λ q.
+        subst (λ (m : ℕ). Does tree (D.logic (N.and_step q) (N.and_last q) a ys l) c (R.operands tree E C Z 28 30 q m (first_at tree p) l)) (less (count_at tree p) j e) (junction_does (N.and_step q) (N.and_last q) 28 30 q (leads (N.guard (N.and_step q)) 28 0 q (λ t. refl)) refl a ys j (first_at tree p) l ca ks)))
 
     pub or_does : Does tree (P.some xs (failing 7) λ a ys. with_post (L.post_bits tree p) λ q. D.logic (N.or_step q) (N.or_last q) a ys l) c (R.logic tree E C Z 29 31 p l)
-    unfolding R.logic
-    or_does = some_rel tree E C Z c (failing 7) (failing_does Refusal.Failed) (λ a ys. with_post (L.post_bits tree p) λ q. D.logic (N.or_step q) (N.or_last q) a ys l) xs (count_at tree p) (first_at tree p) k (λ a ys j e ca ks. post_does (L.post_bits tree p) (λ q.
-        subst (λ (m : ℕ). Does tree (D.logic (N.or_step q) (N.or_last q) a ys l) c (R.operands tree E C Z 29 31 q m (first_at tree p) l)) (less (count_at tree p) j e) (junction_does (N.or_step q) (N.or_last q) 29 31 q (or_leads q) (words 0 0 q).14 a ys j (first_at tree p) l ca ks)))
+    unfolding R.logic word_of
+    or_does = some_rel tree E C Z c _ (failing_does Refusal.Failed) _ xs (count_at tree p) (first_at tree p) k (λ a ys j e ca ks. post_does (L.post_bits tree p) (λ q.
+        subst (λ (m : ℕ). Does tree (D.logic (N.or_step q) (N.or_last q) a ys l) c (R.operands tree E C Z 29 31 q m (first_at tree p) l)) (less (count_at tree p) j e) (junction_does (N.or_step q) (N.or_last q) 29 31 q (leads (N.guard (N.or_step q)) 29 0 q (λ t. refl)) refl a ys j (first_at tree p) l ca ks)))
 
     pub bracket_does : Does tree (P.one xs (failing 7) λ a. a.expr l) c (R.bracket tree E C Z p l)
     unfolding R.bracket
-    bracket_does = one_rel tree E C Z c (failing 7) (failing_does Refusal.Failed) (λ a. a.expr l) xs (count_at tree p) (first_at tree p) k (λ a ca. ca.expr_is l c)
+    bracket_does = one_rel tree E C Z c _ (failing_does Refusal.Failed) _ xs (count_at tree p) (first_at tree p) k (λ a ca. ca.expr_is l c)
 
     pub unary_does : (i : ℕ → N.Plain) (op : ℕ) → ((q : ℕ) → word_of (N.plain (i q)) ≡ word op 0 0 q) → Does tree (P.one xs (failing 7) λ a. a.expr l ⨾ with_post (L.post_bits tree p) (λ q. put (N.plain (i q)))) c (R.unary tree E C Z op p l)
     unfolding R.unary
-    unary_does i op e = one_rel tree E C Z c (failing 7) (failing_does Refusal.Failed) (λ a. a.expr l ⨾ with_post (L.post_bits tree p) (λ q. put (N.plain (i q)))) xs (count_at tree p) (first_at tree p) k (λ a ca. thens (ca.expr_is l c) (put_post_lem p (λ q. N.plain (i q)) op 0 0 e))
+    unary_does i op e = one_rel tree E C Z c _ (failing_does Refusal.Failed) _ xs (count_at tree p) (first_at tree p) k (λ a ca. thens (ca.expr_is l c) (put_post_lem p (λ q. N.plain (i q)) op 0 0 e))
 
     pub negate_does : Does tree (P.one xs (failing 7) λ a. a.expr l ⨾ with_post (L.post_bits tree p) (λ q. put (N.plain (N.negate q)))) c (R.unary tree E C Z 15 p l)
-    negate_does = unary_does N.negate 15 (λ q. (words 0 0 q).11)
+    unfolding word_of
+    negate_does = unary_does N.negate 15 (λ q. refl)
 
     pub not_does : Does tree (P.one xs (failing 7) λ a. a.expr l ⨾ with_post (L.post_bits tree p) (λ q. put (N.plain (N.not q)))) c (R.unary tree E C Z 16 p l)
-    not_does = unary_does N.not 16 (λ q. (words 0 0 q).12)
+    unfolding word_of
+    not_does = unary_does N.not 16 (λ q. refl)
 
     pub mul_does : Does tree (P.two xs (failing 7) λ a b. pushed (a.expr l) (b.expr l ⨾ with_post (L.post_bits tree p) (λ q. put (N.taking (N.mul q))))) c (R.mul tree E C Z p l)
-    unfolding R.mul
-    mul_does = two_rel tree E C Z c (failing 7) (failing_does Refusal.Failed) (λ a b. pushed (a.expr l) (b.expr l ⨾ with_post (L.post_bits tree p) (λ q. put (N.taking (N.mul q))))) xs (count_at tree p) (first_at tree p) k (λ a b ca cb. binary_does (first_at tree p) l ca cb (put_post_lem p (λ q. N.taking (N.mul q)) 19 0 0 (λ q. (words 0 0 q).7)))
+    unfolding R.mul word_of
+    mul_does = two_rel tree E C Z c _ (failing_does Refusal.Failed) _ xs (count_at tree p) (first_at tree p) k (λ a b ca cb. binary_does (first_at tree p) l ca cb (put_post_lem p (λ q. N.taking (N.mul q)) 19 0 0 (λ q. refl)))
 
     pub div_does : Does tree (P.two xs (failing 7) λ a b. b.expr l ⨾ guarded (N.div_guard (eqb (be8 tree 0 6) 1)) operand+ (a.expr l ⨾ with_post (L.post_bits tree p) (λ q. put (N.taking (N.div q))))) c (R.div tree E C Z p l)
-    unfolding R.div
-    div_does = two_rel tree E C Z c (failing 7) (failing_does Refusal.Failed) (λ a b. b.expr l ⨾ guarded (N.div_guard (eqb (be8 tree 0 6) 1)) operand+ (a.expr l ⨾ with_post (L.post_bits tree p) (λ q. put (N.taking (N.div q))))) xs (count_at tree p) (first_at tree p) k
-        (λ a b ca cb. thens (cb.expr_is l c) (guarded_does (N.div_guard (eqb (be8 tree 0 6) 1)) operand+ (div_leads (eqb (be8 tree 0 6) 1)) operand_move (thens (ca.expr_is l (operand+ c)) (put_post_lem p (λ q. N.taking (N.div q)) 21 0 0 (λ q. (words 0 0 q).8))) (pop_one c)))
+    unfolding R.div word_of
+    div_does = two_rel tree E C Z c _ (failing_does Refusal.Failed) _ xs (count_at tree p) (first_at tree p) k
+        (λ a b ca cb. thens (cb.expr_is l c) (guarded_does (N.div_guard (eqb (be8 tree 0 6) 1)) operand+ (leads (N.guard (N.div_guard (eqb (be8 tree 0 6) 1))) 20 (bit (eqb (be8 tree 0 6) 1)) 0 (λ t. refl)) operand_move (thens (ca.expr_is l (operand+ c)) (put_post_lem p (λ q. N.taking (N.div q)) 21 0 0 (λ q. refl))) (pop_one c)))
 
     pub add_does : Does tree (P.some xs (failing 7) λ a ys. P.some ys (a.expr l ⨾ post_instruction (L.post_bits tree p)) λ b zs. pushed (a.expr l) (D.terms (L.post_bits tree p) b zs l)) c (R.add tree E C Z p l)
     unfolding R.add
-    add_does = some_rel tree E C Z c (failing 7) (failing_does Refusal.Failed) (λ a ys. P.some ys (a.expr l ⨾ post_instruction (L.post_bits tree p)) λ b zs. pushed (a.expr l) (D.terms (L.post_bits tree p) b zs l)) xs (count_at tree p) (first_at tree p) k (λ a ys j e ca ks.
-        subst (λ (t : Bool). Does tree (P.some ys (a.expr l ⨾ post_instruction (L.post_bits tree p)) λ b zs. pushed (a.expr l) (D.terms (L.post_bits tree p) b zs l)) c (λ h. cond t (L.post_instr tree p (E (first_at tree p) l h)) (still (Y.popped 1) (R.terms tree E C Z p (count_at tree p - 2) (next_at tree (first_at tree p)) l (still W.pushed (E (first_at tree p) l h)))))) (one_left (count_at tree p) j e)
-        (some_rel tree E C Z c (a.expr l ⨾ post_instruction (L.post_bits tree p)) (thens (ca.expr_is l c) (post_behind p)) (λ b zs. pushed (a.expr l) (D.terms (L.post_bits tree p) b zs l)) ys j (next_at tree (first_at tree p)) ks (λ b zs i d cb ls.
+    add_does = some_rel tree E C Z c _ (failing_does Refusal.Failed) _ xs (count_at tree p) (first_at tree p) k (λ a ys j e ca ks.
+        rw (← one_left (count_at tree p) j e)
+        (some_rel tree E C Z c _ (thens (ca.expr_is l c) (post_behind p)) _ ys j (next_at tree (first_at tree p)) ks (λ b zs i d cb ls.
         let m : i ≡ count_at tree p - 2 = omega arith in
         subst (λ (n : ℕ). Does tree (pushed (a.expr l) (D.terms (L.post_bits tree p) b zs l)) c (λ h. still (Y.popped 1) (R.terms tree E C Z p n (next_at tree (first_at tree p)) l (still W.pushed (E (first_at tree p) l h))))) m
-        (lowers (pushes (ca.expr_is l c) (stays (addition_does p b zs i (next_at tree (first_at tree p)) l cb ls))) (pop_one c)))))
+        (lowers (pushes (ca.expr_is l c) ((addition_does p b zs i (next_at tree (first_at tree p)) l cb ls))) (pop_one c)))))
 
     pub pointer_does : Does tree (D.pointer (L.post_bits tree p) xs l) c (R.pointer tree E C Z p l)
-    unfolding D.pointer R.pointer
+    unfolding D.pointer R.pointer word_of
     pointer_does = flagged_does (λ f. S.sets USES_ARROW (S.not_float_only f)) (λ s. Y.flagged 128 (Y.not_float_only s)) (sets_not_move 128)
-        (two_rel tree E C Z c (failing 7) (failing_does Refusal.Failed) (λ a b. with_post (L.post_bits tree p) λ q. a.expr l ⨾ guarded (N.pointer_enter q) same (b.expr l ⨾ put (N.plain (N.pointer_leave q)))) xs (count_at tree p) (first_at tree p) k
-        (λ a b ca cb. post_does (L.post_bits tree p) (λ q. thens (ca.expr_is l c) (guarded_does (N.pointer_enter q) same (arrow_leads q) same_move (thens (cb.expr_is l c) (instr_does (N.plain (N.pointer_leave q)) (words 0 0 q).10)) nothing_move))))
+        (two_rel tree E C Z c _ (failing_does Refusal.Failed) _ xs (count_at tree p) (first_at tree p) k
+        (λ a b ca cb. post_does (L.post_bits tree p) (λ q. thens (ca.expr_is l c) (guarded_does (N.pointer_enter q) same (leads (N.guard (N.pointer_enter q)) 37 0 q (λ t. refl)) same_move (thens (cb.expr_is l c) (instr_does (N.plain (N.pointer_leave q)) refl)) nothing_move))))
 
     -- 255 arguments at most
     few : (m : ℕ) {g : Lowering} {G : Step} → Does tree g c G → Does tree (cond (leb m 255) g (failing 7)) c (λ h. cond (ltb 255 m) (W.failed Refusal.Failed h) (G h))
     few m {g} {G} d = go (dec_lt 255 m)
       where
         go : Dec (255 < m) → Does tree (cond (leb m 255) g (failing 7)) c (λ h. cond (ltb 255 m) (W.failed Refusal.Failed h) (G h))
-        go (yes r) = subst (λ (t : Bool). Does tree (cond t g (failing 7)) c (λ h. cond (ltb 255 m) (W.failed Refusal.Failed h) (G h))) (sym (lt-leb m 255 r)) (subst (λ (t : Bool). Does tree (failing 7) c (λ h. cond t (W.failed Refusal.Failed h) (G h))) (sym (lt-ltb 255 m r)) (failing_does Refusal.Failed))
-        go (no r) = subst (λ (t : Bool). Does tree (cond t g (failing 7)) c (λ h. cond (ltb 255 m) (W.failed Refusal.Failed h) (G h))) (sym (le-leb m 255 (omega arith))) (subst (λ (t : Bool). Does tree g c (λ h. cond t (W.failed Refusal.Failed h) (G h))) (sym (le-ltb 255 m (omega arith))) d)
+        go (yes r) = rw (lt-leb m 255 r) (rw (lt-ltb 255 m r) (failing_does Refusal.Failed))
+        go (no r) = rw (le-leb m 255 (omega arith)) (rw (le-ltb 255 m (omega arith)) d)
 
     pub math_does : (bits : ℕ) → Does tree (flagged (S.sets bits) (P.as_math (payload_at tree p) (failing 7) λ f. P.some xs (failing 7) λ a ys. cond (leb (length xs) 255) (D.host_math f (length xs) (L.post_bits tree p) a ys l) (failing 7))) c (R.host_math tree E C Z bits p l)
     unfolding R.host_math
     math_does bits = flagged_does (S.sets bits) (Y.flagged bits) (sets_move bits) (as_math_lem p (failing_does Refusal.Failed) (λ f.
         let e = children_count tree E C Z xs (count_at tree p) (first_at tree p) k in
         subst (λ (n : ℕ). Does tree (P.some xs (failing 7) λ a ys. cond (leb n 255) (D.host_math f n (L.post_bits tree p) a ys l) (failing 7)) c (λ h. cond (eqb (count_at tree p) 0) (W.failed Refusal.Failed h) (cond (ltb 255 (count_at tree p)) (W.failed Refusal.Failed h) (still (Y.popped (count_at tree p - 1)) (R.host_arguments tree E C Z p f (count_at tree p) (count_at tree p - 1) (first_at tree p) l h))))) (sym e)
-        (some_rel tree E C Z c (failing 7) (failing_does Refusal.Failed) (λ a ys. cond (leb (count_at tree p) 255) (D.host_math f (count_at tree p) (L.post_bits tree p) a ys l) (failing 7)) xs (count_at tree p) (first_at tree p) k (λ a ys j d ca ks.
+        (some_rel tree E C Z c _ (failing_does Refusal.Failed) _ xs (count_at tree p) (first_at tree p) k (λ a ys j d ca ks.
         few (count_at tree p) (subst (λ (m : ℕ). Does tree (D.host_math f (count_at tree p) (L.post_bits tree p) a ys l) c (λ h. still (Y.popped m) (R.host_arguments tree E C Z p f (count_at tree p) m (first_at tree p) l h))) (less (count_at tree p) j d) (hosted_does p f (count_at tree p) a ys j (first_at tree p) l ca ks))))))

@@ -1,14 +1,8 @@
 -- A table of entries with keys after interning: what is searched, counted and stored is what the pool's definition says. Assumes nothing.
-use mathlib.Core.Path.{◌≡◌, refl, sym, ap, subst, ◌∙◌}
-use mathlib.Core.Bool.{Bool}
-use mathlib.Core.List.{List, [], ◌∷◌, ◌++◌}
-use Prim.Native.Nat.{ℕ, zero, suc, ◌+◌, ◌*◌, ◌≤◌, ◌<◌}
-use native.Mathlib.Omega.{arith}
+use Rattle.std.proofs.Common.{lt-ltb, le-ltb, rules, ◌≡◌, refl, sym, ap, subst, ◌∙◌, Bool, List, [], ◌∷◌, ◌++◌, ℕ, zero, suc, ◌+◌, ◌*◌, ◌≤◌, ◌<◌, arith, length, get_or, length-append}
 use native.Mathlib.Nat.{mul-suc, mul-zero}
 use native.Mathlib.Decide.{dec_lt}
-use lib.ListN.{length, get_or, length-append}
 use lib.Seq.{sets}
-use borrow.Author.Tests.{lt-ltb, le-ltb}
 use Rattle.semantics.specs.Positions.{slot, intern}
 use Rattle.semantics.proofs.Costs.{weigh}
 use Rattle.semantics.proofs.Sizes.{weigh_length}
@@ -77,40 +71,21 @@ rows_at w Q o (x ∷ xs) (suc i) d l h =
 -- ---- words
 
 pub apart_none : (ws : List ℕ) (lo hi : ℕ) → Apart ws ws lo hi
-apart_none ws lo hi = record { same_length = refl; below = λ j l. refl; above = λ j l. refl }
+apart_none ws lo hi = search rules
 
 pub apart_wider : {ws vs : List ℕ} {lo hi : ℕ} → Apart ws vs lo hi → (lo2 hi2 : ℕ) → lo2 ≤ lo → hi ≤ hi2 → Apart ws vs lo2 hi2
-apart_wider a lo2 hi2 l u = record { same_length = a.same_length; below = λ j k. a.below j (omega arith); above = λ j k. a.above j (omega arith) }
+apart_wider a lo2 hi2 l u = search rules
 
 module _ (k n room : ℕ) (ws : List ℕ) (at : ℕ) (entry : List ℕ) where
-  pub count_old : k < n → interned_count k n room ≡ n
-  unfolding interned_count
-  count_old h = rw (lt-ltb k n h)
-
-  pub words_old : k < n → interned_words k n room ws at entry ≡ ws
-  unfolding interned_words
-  words_old h = rw (lt-ltb k n h)
-
-  pub count_new : n ≤ k → n < room → interned_count k n room ≡ n + 1
-  unfolding interned_count appended_count
-  count_new h l = rw (le-ltb k n h, lt-ltb n room l)
-
-  pub words_new : n ≤ k → n < room → interned_words k n room ws at entry ≡ sets ws at entry
-  unfolding interned_words appended_words
-  words_new h l = rw (le-ltb k n h, lt-ltb n room l)
-
-  pub words_full : n ≤ k → room ≤ n → interned_words k n room ws at entry ≡ ws
-  unfolding interned_words appended_words
-  words_full h l = rw (le-ltb k n h, le-ltb n room l)
-
   -- only words of the region change
   pub interned_apart : (lo hi : ℕ) → lo ≤ at → (n < room → at + length entry ≤ hi) → Apart ws (interned_words k n room ws at entry) lo hi
+  unfolding interned_words appended_words
   interned_apart lo hi l u = go (dec_lt k n) (dec_lt n room)
     where
       go : Dec (k < n) → Dec (n < room) → Apart ws (interned_words k n room ws at entry) lo hi
-      go (yes p) d = subst (λ (vs : List ℕ). Apart ws vs lo hi) (sym (words_old p)) (apart_none ws lo hi)
-      go (no p) (yes q) = subst (λ (vs : List ℕ). Apart ws vs lo hi) (sym (words_new (omega arith) q)) (apart_wider (sets_apart ws at entry) lo hi l (u q))
-      go (no p) (no q) = subst (λ (vs : List ℕ). Apart ws vs lo hi) (sym (words_full (omega arith) (omega arith))) (apart_none ws lo hi)
+      go (yes p) d = rw (lt-ltb k n p) (apart_none ws lo hi)
+      go (no p) (yes q) = rw (le-ltb k n (omega arith), lt-ltb n room q) (apart_wider (sets_apart ws at entry) lo hi l (u q))
+      go (no p) (no q) = rw (le-ltb k n (omega arith), le-ltb n room (omega arith)) (apart_none ws lo hi)
 
 -- ---- tables
 
@@ -136,15 +111,16 @@ module _ {X K : Type 0} (key : X → K) (dec : (a b : K) → Dec (a ≡ b)) (v :
     -- an index that is the slot: the region after interning is the pool after interning
     pub table_interned : (k n room : ℕ) (ws : List ℕ) (at : ℕ) (xs : List X) → k ≡ slot key dec v 0 xs → at ≡ o + w * n → (n < room → at + length entry ≤ length ws) → length (intern key dec v xs) ≤ room → Table w (Q ws) o n xs →
         Table w (Q (interned_words k n room ws at entry)) o (interned_count k n room) (intern key dec v xs)
+    unfolding interned_words interned_count appended_words appended_count
     table_interned k n room ws at xs s e u f t = go (dec_lt k n)
       where
         go : Dec (k < n) → Table w (Q (interned_words k n room ws at entry)) o (interned_count k n room) (intern key dec v xs)
         go (yes p) =
             let c = t.count in
             let i = intern_old key dec v xs 0 (omega (arith, s, c)) in
-            rw (words_old k n room ws at entry p, count_old k n room ws at entry p, i) t
+            rw (lt-ltb k n p, i) t
         go (no p) =
             let c = t.count in
             let i = intern_new key dec v xs 0 (omega (arith, s, c)) in
             let l : n < room = omega (arith, f, ap length i, length-append xs (v ∷ []), c) in
-            rw (words_new k n room ws at entry (omega arith) l, count_new k n room ws at entry (omega arith) l, i) (table_more ws n xs at e (u l) t)
+            rw (le-ltb k n (omega arith), lt-ltb n room l, i) (table_more ws n xs at e (u l) t)

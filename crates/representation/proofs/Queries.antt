@@ -1,23 +1,16 @@
 -- A query: its call's number, its arguments, the call filled, the Call itself. Assumes nothing.
-use mathlib.Core.Path.{◌≡◌, refl, sym, ap, subst, ◌∙◌}
-use mathlib.Core.Bool.{Bool}
-use mathlib.Core.List.{List, [], ◌∷◌}
-use Prim.Native.Nat.{ℕ, zero, suc, ◌+◌, ◌*◌, ◌≤◌, ◌<◌}
-use native.Mathlib.Omega.{arith}
-use lib.Dec.{eqb}
-use lib.ListN.{length}
-use borrow.Author.Tests.{ne_eqb}
-use Rattle.ast.specs.Node.{count_at, first_at, next_at}
+use Rattle.std.proofs.Common.{rules, ◌≡◌, refl, sym, ap, subst, ◌∙◌, Bool, List, [], ◌∷◌, ℕ, zero, suc, ◌+◌, ◌*◌, ◌≤◌, ◌<◌, arith, length, eqb, ne_eqb}
+use Rattle.ast.specs.Node.{count_at, first_at}
 use Rattle.program.specs.Instruction.{call}
 use Rattle.program.specs.Program.{Counts}
-use Rattle.program.specs.Image.{word_of, word}
+use Rattle.program.specs.Image.{word_of}
 use Rattle.semantics.specs.State.{CallInfo, State, set_pools, set_calls, set_flags, queried}
 use Rattle.semantics.specs.Pieces.{put, with_post, flagged}
 use Rattle.semantics.specs.Lowering.{Lowerings, Arguments, arguments, called, fill, query, is_empty}
 use Rattle.semantics.specs.Link.{offsets_of}
 use Rattle.payload.specs.declared.NameRef.{NameRef}
 use Rattle.workspace.specs.Layout.{CALLS, ARGUMENTS}
-use Rattle.builder.specs.Steps.{Held}
+use Rattle.lowering.specs.Held.{Held}
 use Rattle.lowering.specs.Parts as L
 use Rattle.lowering.specs.Parts.{Step}
 use Rattle.builder.specs.Steps.{still}
@@ -30,8 +23,9 @@ use Rattle.representation.proofs.Interning.{post_does}
 use Rattle.representation.proofs.Laws.{flags_move}
 use Rattle.representation.proofs.Targets.{mk}
 use Rattle.representation.proofs.Branches.{instr_does}
-use Rattle.representation.proofs.Calls.{pending_last, calls_changed, unfilled, begun_state, open_call, begun_a, begun_back, begun_keep}
-use Rattle.representation.proofs.Arguments.{Children, grown_by, arguments_back, arguments_keep}
+use Rattle.representation.proofs.Keeps.{calls_changed}
+use Rattle.representation.proofs.Calls.{pending_last, unfilled, begun_state, open_call, begun_a, begun_back, begun_keep}
+use Rattle.representation.proofs.Arguments.{Children, grown_by, arguments_back, arguments_keep, children_count}
 
 -- ---- a call filled with its starts
 
@@ -79,19 +73,23 @@ module _ {tree : List ℕ} {c : Counts} where
   fill_keep A o os h eo el f r =
       let t = r.tables in
       let is = A.state.pools.calls in
-      let op : OpenCalls h.1 is h.0.calls (o ∷ os) = subst (λ (l : List OpenCall). OpenCalls h.1 is h.0.calls l) eo t.the_open in
+      let op : OpenCalls h.1 is h.0.calls (o ∷ os) = subst (λ (l : List OpenCall). OpenCalls h.1 is h.0.calls l) eo t.calls_held.the_open in
       let d = op.1 in
-      let nb = op.0 in
       let k = o.number in
-      let cc = t.call_count in
-      let ac = t.argument_count in
+      let cc = t.calls_held.call_count in
+      let ac = t.calls_held.argument_count in
       let ff = filled_fill is k o.starts d.waits in
       let er = ap reserved_by eo in
       let opens : OpenCalls h.1 (fill k o.starts is) h.0.calls os = widen h.1 (fill k o.starts is) k h.0.calls os (omega arith) (open_fill h.1 is k k o.starts os (omega arith) op.2) in
       record {
         enough = r.enough;
         beside = r.beside;
-        tables = calls_changed A f (apart_none h.1 CALLS CALLS) (omega arith) (cc ∙ sym (length_fill is k o.starts)) (calls_fill h.1 h.0.arguments CALLS 0 is k o.starts (d.reserved_is ∙ sym el) d.starts_are t.the_calls) opens (omega (arith, ac, er, ff, el)) t;
+        tables = calls_changed tree h.1 h.1 A f (apart_none h.1 CALLS CALLS) (omega arith) (record {
+          call_count = cc ∙ sym (length_fill is k o.starts);
+          the_calls = calls_fill h.1 h.0.arguments CALLS 0 is k o.starts (d.reserved_is ∙ sym el) d.starts_are t.calls_held.the_calls;
+          the_open = opens;
+          argument_count = omega (arith, ac, er, ff, el);
+        }) t;
       }
     where
       widen : (ws : List ℕ) (is : List CallInfo) (b e : ℕ) (os : List OpenCall) → b ≤ e → OpenCalls ws is b os → OpenCalls ws is e os
@@ -107,12 +105,6 @@ offsets_length [] c s = refl
 offsets_length (a ∷ xs) c s = ap suc (offsets_length xs c _)
 
 module _ (tree : List ℕ) (E : ℕ → Bool → Step) (C : ℕ → NameRef → Bool → Step) (Z : ℕ → Bool → Step) where
-  pub children_count : (xs : List Lowerings) (m q : ℕ) → Children tree E C Z xs m q → length xs ≡ m
-  children_count [] zero q k = refl
-  children_count [] (suc m) q k = absurd k
-  children_count (a ∷ xs) zero q k = absurd k
-  children_count (a ∷ xs) (suc m) q k = ap suc (children_count xs m (next_at tree q) k.1)
-
   -- what is behind the arguments: as in R.called
   abbrev argued : ℕ → ℕ → ℕ → ℕ → Step
   argued v m n q h = R.arguments tree E C Z h.0.base h.0.waiting n q h.0.arguments ((L.call_begun v m n h).0.state, (L.call_begun v m n h).1)
@@ -126,7 +118,7 @@ module _ (tree : List ℕ) (E : ℕ → Bool → Step) (C : ℕ → NameRef → 
     behind A = mk A.outer A.code A.wait (grown_by (told A.state).offsets (open_call n A) ∷ A.open_calls) (told A.state).state
 
     count_is : length xs ≡ n
-    count_is = children_count xs n q k
+    count_is = children_count tree E C Z xs n q k
 
     behind_fits : (A : Abs) → Fits (on_state (called v m xs c) A) → Fits (behind A)
     behind_fits A f =
@@ -136,7 +128,7 @@ module _ (tree : List ℕ) (E : ℕ → Bool → Step) (C : ℕ → NameRef → 
         let l = length_fill is (length A.state.pools.calls) (told A.state).offsets in
         let o = offsets_length xs c (begun_state v m A.state) in
         let x = count_is in
-        record { code = f.code; consts = f.consts; posts = f.posts; hashes = f.hashes; names = f.names; temps = f.temps; members = f.members; stores = f.stores; paths = f.paths; calls = omega (arith, l, f.calls); arguments = omega (arith, e, o, x, f.arguments); operands = f.operands; loops = f.loops; handlers = f.handlers }
+        search rules
 
     begun_fits : (A : Abs) → Fits (on_state (called v m xs c) A) → Fits (begun_a v m n A)
     begun_fits A f = arguments_back tree E C Z c xs n q k (begun_a v m n A) (grown_by (told A.state).offsets (open_call n A) ∷ A.open_calls) refl (behind_fits A f)
@@ -149,20 +141,14 @@ module _ (tree : List ℕ) (E : ℕ → Bool → Step) (C : ℕ → NameRef → 
           let f2 = behind_fits A f in
           let g : Held = ((L.call_begun v m n h).0.state, (L.call_begun v m n h).1) in
           let r1 = begun_keep v m n A h f1 r in
-          let ac = r.tables.argument_count in
           let x = count_is in
-          let f2' : Fits (mk A.outer A.code A.wait (open_call n A ∷ A.open_calls) (told A.state).state) = record { code = f2.code; consts = f2.consts; posts = f2.posts; hashes = f2.hashes; names = f2.names; temps = f2.temps; members = f2.members; stores = f2.stores; paths = f2.paths; calls = f2.calls; arguments = f2.arguments; operands = f2.operands; loops = f2.loops; handlers = f2.handlers } in
-          let r2 = arguments_keep tree E C Z c xs n q k (begun_a v m n A) (open_call n A) A.open_calls h.0.arguments h.0.base g refl (omega arith) (omega arith) r.tables.open_base f2' r1 in
+          let r2 = arguments_keep tree E C Z c xs n q k (begun_a v m n A) (open_call n A) A.open_calls h.0.arguments h.0.base g refl (omega arith) (omega arith) r.tables.code_held.open_base f2 r1 in
           let o = offsets_length xs c (begun_state v m A.state) in
           let r3 = fill_keep (behind A) (grown_by (told A.state).offsets (open_call n A)) A.open_calls _ refl (omega arith) f2 r2 in
           subst (λ (w : Bool). Content tree c (R.arguments tree E C Z h.0.base w n q h.0.arguments g) (on_state (called v m xs c) A)) (sym r.beside.waiting_is) r3;
     }
 
 -- ---- the query
-
-call_word : (k q : ℕ) → word_of (call k q) ≡ word 39 0 k q
-unfolding word_of
-call_word k q = refl
 
 -- flags: a query without arguments
 queried_move : {tree : List ℕ} {c : Counts} (a b : Bool) → a ≡ b → Moves tree (on_state (λ s. set_flags (queried a s.flags) s)) c c (still (Y.queried b))
@@ -173,13 +159,12 @@ module _ (tree : List ℕ) (E : ℕ → Bool → Step) (C : ℕ → NameRef → 
   alone_is : (xs : List Lowerings) (m q : ℕ) → Children tree E C Z xs m q → is_empty xs ≡ eqb m 0
   unfolding is_empty
   alone_is [] zero q k = refl
-  alone_is [] (suc m) q k = absurd k
-  alone_is (a ∷ xs) zero q k = absurd k
   alone_is (a ∷ xs) (suc m) q k = sym (ne_eqb (suc m) 0 (λ e. omega arith))
+  alone_is xs m q k = absurd k
 
   pub query_does : (c : Counts) (p v m : ℕ) (xs : List Lowerings) → Children tree E C Z xs (count_at tree p) (first_at tree p) → ((j : ℕ) (s : State) → Pending j s.pools.calls → Pending j (arguments xs c s).state.pools.calls)
       → Does tree (flagged (queried (is_empty xs)) (query v m (L.post_bits tree p) xs)) c (R.called tree E C Z p v m)
-  unfolding R.called L.put_post L.call_begun
+  unfolding R.called L.put_post L.call_begun word_of
   query_does c p v m xs k pends =
       let n = count_at tree p in
       let q = first_at tree p in
@@ -194,10 +179,10 @@ module _ (tree : List ℕ) (E : ℕ → Bool → Step) (C : ℕ → NameRef → 
             let g = still (Y.queried (eqb n 0)) h in
             let r1 = fm.keep A h f1 r in
             let r2 = cm.keep A1 g f2 r1 in
-            let e = r1.tables.call_count in
+            let e = r1.tables.calls_held.call_count in
             subst (λ (i : ℕ). Content tree c (L.with_post tree p (λ y. L.instr 39 0 i y) (argued tree E C Z v m n q g)) (run (with_post (L.post_bits tree p) (λ y. put (call (length A.state.pools.calls) y))) c (on_state (called v m xs c) A1))) (sym e)
             ((put_at (length A.state.pools.calls)).keep (on_state (called v m xs c) A1) (argued tree E C Z v m n q g) f r2);
       }
     where
       put_at : (i : ℕ) → Does tree (with_post (L.post_bits tree p) (λ y. put (call i y))) c (L.with_post tree p (λ y. L.instr 39 0 i y))
-      put_at i = post_does (L.post_bits tree p) (λ y. instr_does (call i y) (call_word i y))
+      put_at i = post_does (L.post_bits tree p) (λ y. instr_does (call i y) refl)

@@ -1,14 +1,13 @@
 -- What the builder's state and the workspace's words stand for: the state of the lowering. Definitions of the proof; nothing here is to be believed.
+use Rattle.std.proofs.Common.{◌≡◌, Bool, false, List, [], ◌∷◌, ◌++◌, ℕ, zero, suc, ◌+◌, ◌*◌, ◌/◌, ◌%◌, ◌≤◌, ◌<◌, length, get_or}
 use Rattle.answers.specs.Refusals.{number_of_first}
-use mathlib.Core.Path.{◌≡◌}
-use mathlib.Core.Bool.{Bool, false}
-use mathlib.Core.List.{List, [], ◌∷◌, ◌++◌}
 use mathlib.Core.Option.{Option, some, none}
-use Prim.Native.Nat.{ℕ, zero, suc, ◌+◌, ◌*◌, ◌/◌, ◌%◌, ◌≤◌, ◌<◌}
-use lib.ListN.{length, get_or}
+use Rattle.ast.specs.Tree.{Name}
+use Rattle.numeric.specs.Post.{Post}
 use Rattle.program.specs.Instruction.{Instruction}
 use Rattle.program.specs.Program.{Counts, MemberStore}
 use Rattle.program.specs.Image.{word_of}
+use Rattle.depth.specs.declared.Depth.{Depth}
 use Rattle.semantics.specs.Positions.{past}
 use Rattle.semantics.specs.Regions.{path_entries}
 use Rattle.semantics.specs.State.{Item, instr, to_cleanup, to_check, CallInfo, MemberRead, Pools, Flags, State}
@@ -17,7 +16,7 @@ use Rattle.semantics.specs.Link.{place_segments, member_entry, offsets_of}
 use Rattle.code.specs.Segments.{BREAK, CONTINUE}
 use Rattle.workspace.specs.Layout.{OPEN, FINISHED, CONSTS, POSTS, HASHES, NAMES, TEMPS, MEMBERS, STORES, CALLS, ARGUMENTS}
 use Rattle.card.specs.Holds.{PostIs, HashIs, NameIs, MemberIs, StoreIs}
-use Rattle.builder.specs.Steps.{Held}
+use Rattle.lowering.specs.Held.{Held}
 use Rattle.lowering.specs.Pools.{Found}
 use Rattle.lowering.specs.Parts.{Step, front}
 use Rattle.representation.proofs.Rows.{Rows}
@@ -119,65 +118,89 @@ pub record Abs : Type 0 where
 abbrev pub finished_code : Pools → List Instruction
 finished_code P = place_segments P.segments 0
 
--- each region has room, and no counter is full
-pub record Fits (A : Abs) : Type 0 where
-  pub code : length A.outer + length A.code + length (finished_code A.state.pools) ≤ 2048
-  pub consts : length A.state.pools.consts ≤ 384
-  pub posts : length A.state.pools.posts ≤ 384
-  pub hashes : length A.state.pools.hashes ≤ 384
-  pub names : length A.state.pools.names ≤ 256
-  pub temps : length A.state.pools.temps ≤ 256
-  pub members : length A.state.pools.members ≤ 256
-  pub stores : length A.state.pools.stores ≤ 192
-  pub paths : path_entries A.state.pools.stores ≤ 256
-  pub calls : length A.state.pools.calls ≤ 384
-  pub arguments : reserved_by A.open_calls + filled A.state.pools.calls ≤ 384
-  pub operands : A.state.deepest.operands ≤ 65535
-  pub loops : A.state.deepest.loops ≤ 65535
-  pub handlers : A.state.deepest.handlers ≤ 65535
+-- each region has room for what is in it, and no counter is full; over values, so that a step that changes none of them leaves it as it is
+pub record Room (in_code in_consts in_posts in_hashes in_names in_temps in_members in_stores in_paths in_calls in_arguments in_operands in_loops in_handlers : ℕ) : Type 0 where
+  pub code : in_code ≤ 2048
+  pub consts : in_consts ≤ 384
+  pub posts : in_posts ≤ 384
+  pub hashes : in_hashes ≤ 384
+  pub names : in_names ≤ 256
+  pub temps : in_temps ≤ 256
+  pub members : in_members ≤ 256
+  pub stores : in_stores ≤ 192
+  pub paths : in_paths ≤ 256
+  pub calls : in_calls ≤ 384
+  pub arguments : in_arguments ≤ 384
+  pub operands : in_operands ≤ 65535
+  pub loops : in_loops ≤ 65535
+  pub handlers : in_handlers ≤ 65535
+
+abbrev pub Fits : Abs → Type 0
+Fits A =
+    let P = A.state.pools in
+    let d = A.state.deepest in
+    Room (length A.outer + length A.code + length (finished_code P)) (length P.consts) (length P.posts) (length P.hashes) (length P.names) (length P.temps) (length P.members)
+    (length P.stores) (path_entries P.stores) (length P.calls) (reserved_by A.open_calls + filled P.calls) d.operands d.loops d.handlers
 
 -- n entries of w words from o on are xs
 pub record Table {X : Type 0} (w : ℕ) (Q : ℕ → X → Type 0) (o n : ℕ) (xs : List X) : Type 0 where
   pub count : n ≡ length xs
   pub rows : Rows w Q o xs
 
--- the regions, by how much of each is in use
-pub record Tables (tree ws : List ℕ) (top base finished consts posts hashes names temps members stores paths calls arguments : ℕ) (outer code : List Item) (open_calls : List OpenCall) (P : Pools) : Type 0 where
+-- the regions, by how much of each is in use: open and finished code
+pub record CodeHeld (ws : List ℕ) (top base finished : ℕ) (outer code : List Item) (closed : List Instruction) : Type 0 where
   pub open_base : base ≡ length outer
   pub open_code : Table 2 (ItemAt ws) OPEN top (outer ++ code)
-  pub the_finished_code : Table 2 (InstructionAt ws) FINISHED finished (finished_code P)
-  pub the_consts : Table 1 (WordAt ws) CONSTS consts P.consts
-  pub the_posts : Table 2 (PostIs ws) POSTS posts P.posts
-  pub the_hashes : Table 2 (HashIs ws) HASHES hashes P.hashes
-  pub the_names : Table 3 (NameIs tree ws) NAMES names P.names
-  pub the_temps : Table 1 (WordAt ws) TEMPS temps P.temps
-  pub the_members : Table 6 (MemberAt tree ws) MEMBERS members P.members
-  pub the_stores : Table 4 (StoreAt paths ws) STORES stores P.stores
-  pub path_count : paths ≡ path_entries P.stores
-  pub call_count : calls ≡ length P.calls
-  pub the_calls : CallsFrom ws arguments CALLS 0 P.calls
-  pub the_open : OpenCalls ws P.calls calls open_calls
-  pub argument_count : arguments ≡ reserved_by open_calls + filled P.calls
+  pub the_finished_code : Table 2 (InstructionAt ws) FINISHED finished closed
 
--- what stands beside the words, under the open counts c; it is over values, so that a step on the words leaves it as it is
-pub record Beside (c : Counts) (waiting : Bool) (stack loops handlers top_stack top_loops top_handlers bits : ℕ) (float_loop : Bool) (number : ℕ) (wait : Bool) (deepest : Counts) (flags : Flags) (refusal : ℕ) : Type 0 where
+-- the six pools that are interned
+pub record PoolsHeld (tree ws : List ℕ) (consts posts hashes names temps members : ℕ) (cs : List ℕ) (ps : List Post) (hs : List ℕ) (ns : List Name) (ts : List ℕ) (ms : List MemberRead) : Type 0 where
+  pub the_consts : Table 1 (WordAt ws) CONSTS consts cs
+  pub the_posts : Table 2 (PostIs ws) POSTS posts ps
+  pub the_hashes : Table 2 (HashIs ws) HASHES hashes hs
+  pub the_names : Table 3 (NameIs tree ws) NAMES names ns
+  pub the_temps : Table 1 (WordAt ws) TEMPS temps ts
+  pub the_members : Table 6 (MemberAt tree ws) MEMBERS members ms
+
+pub record StoresHeld (ws : List ℕ) (stores paths : ℕ) (xs : List MemberStore) : Type 0 where
+  pub the_stores : Table 4 (StoreAt paths ws) STORES stores xs
+  pub path_count : paths ≡ path_entries xs
+
+pub record CallsHeld (ws : List ℕ) (calls arguments : ℕ) (is : List CallInfo) (os : List OpenCall) : Type 0 where
+  pub call_count : calls ≡ length is
+  pub the_calls : CallsFrom ws arguments CALLS 0 is
+  pub the_open : OpenCalls ws is calls os
+  pub argument_count : arguments ≡ reserved_by os + filled is
+
+pub record Tables (tree ws : List ℕ) (top base finished consts posts hashes names temps members stores paths calls arguments : ℕ) (outer code : List Item) (open_calls : List OpenCall) (P : Pools) : Type 0 where
+  pub code_held : CodeHeld ws top base finished outer code (finished_code P)
+  pub pools_held : PoolsHeld tree ws consts posts hashes names temps members P.consts P.posts P.hashes P.names P.temps P.members
+  pub stores_held : StoresHeld ws stores paths P.stores
+  pub calls_held : CallsHeld ws calls arguments P.calls open_calls
+
+-- a counter of the builder, now and at its deepest, where n are open of at most m
+pub record Counter (now top n m : ℕ) : Type 0 where
+  pub open_is : now ≡ n
+  pub most_is : top ≡ m
+  pub within : n ≤ m
+
+-- the three counters, under the open counts c
+pub record Counted (c deepest : Counts) (d : Depth) : Type 0 where
+  pub operands : Counter d.now.stack d.max.stack c.operands deepest.operands
+  pub loops : Counter d.now.loops d.max.loops c.loops deepest.loops
+  pub handlers : Counter d.now.handlers d.max.handlers c.handlers deepest.handlers
+
+-- what stands beside the words; it is over values, so that a step on the words leaves it as it is
+pub record Beside (c : Counts) (waiting : Bool) (depth : Depth) (bits : ℕ) (float_loop : Bool) (number : ℕ) (wait : Bool) (deepest : Counts) (flags : Flags) (refusal : ℕ) : Type 0 where
   pub waiting_is : waiting ≡ wait
-  pub stack_is : stack ≡ c.operands
-  pub loops_is : loops ≡ c.loops
-  pub handlers_is : handlers ≡ c.handlers
-  pub stack_max : top_stack ≡ deepest.operands
-  pub loops_max : top_loops ≡ deepest.loops
-  pub handlers_max : top_handlers ≡ deepest.handlers
-  pub stack_within : c.operands ≤ deepest.operands
-  pub loops_within : c.loops ≤ deepest.loops
-  pub handlers_within : c.handlers ≤ deepest.handlers
+  pub counted : Counted c deepest depth
   pub bits_are : bits ≡ flags.bits
   pub float_loop_is : float_loop ≡ flags.float_loop
   pub number_is : number ≡ refusal
 
 pub record Content (tree : List ℕ) (c : Counts) (h : Held) (A : Abs) : Type 0 where
   pub enough : 16384 ≤ length h.1
-  pub beside : Beside c h.0.waiting h.0.depth.now.stack h.0.depth.now.loops h.0.depth.now.handlers h.0.depth.max.stack h.0.depth.max.loops h.0.depth.max.handlers h.0.flags h.0.float_loop (number_of_first h.0.refusal) A.wait A.state.deepest A.state.flags A.state.refusal
+  pub beside : Beside c h.0.waiting h.0.depth h.0.flags h.0.float_loop (number_of_first h.0.refusal) A.wait A.state.deepest A.state.flags A.state.refusal
   pub tables : Tables tree h.1 h.0.top h.0.base h.0.finished h.0.consts h.0.posts h.0.hashes h.0.names h.0.temps h.0.members h.0.stores h.0.paths h.0.calls h.0.arguments A.outer A.code A.open_calls A.state.pools
 
 -- ---- steps
@@ -192,10 +215,14 @@ run f c A =
     let x = f c A.wait (past A.code 0) A.state in
     record { outer = A.outer; code = A.code ++ x.code; wait = false; open_calls = A.open_calls; state = x.state }
 
--- F is the lowering f at the open counts c
-pub record Does (tree : List ℕ) (f : Lowering) (c : Counts) (F : Step) : Type 0 where
+-- F is the lowering f from the open counts c, and leaves d open
+pub record Ends (tree : List ℕ) (f : Lowering) (c d : Counts) (F : Step) : Type 0 where
   pub back : (A : Abs) → Fits (run f c A) → Fits A
-  pub keep : (A : Abs) (h : Held) → Fits (run f c A) → Content tree c h A → Content tree c (F h) (run f c A)
+  pub keep : (A : Abs) (h : Held) → Fits (run f c A) → Content tree c h A → Content tree d (F h) (run f c A)
+
+-- F is the lowering f at the open counts c, and leaves them as they are
+abbrev pub Does : List ℕ → Lowering → Counts → Step → Type 0
+Does tree f c F = Ends tree f c c F
 
 abbrev pub on_state : (State → State) → Abs → Abs
 on_state g A = record { outer = A.outer; code = A.code; wait = A.wait; open_calls = A.open_calls; state = g A.state }

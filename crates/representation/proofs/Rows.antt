@@ -1,10 +1,6 @@
 -- Entries of w words each, one behind the other in the workspace. Assumes nothing.
-use mathlib.Core.Path.{◌≡◌, refl, ap, subst, ◌∙◌}
-use mathlib.Core.List.{List, [], ◌∷◌, ◌++◌}
-use Prim.Native.Nat.{ℕ, zero, suc, ◌+◌, ◌≤◌, ◌<◌}
-use native.Mathlib.Omega.{arith}
-use lib.ListN.{length, get_or, set, length-set}
-use lib.Seq.{sets, get_or-set_same, get_or-set_other}
+use Rattle.std.proofs.Common.{rules, ◌≡◌, refl, ap, subst, ◌∙◌, List, [], ◌∷◌, ◌++◌, ℕ, zero, suc, ◌+◌, ◌≤◌, ◌<◌, arith, length, get_or, set, length-set, get_or-set_same}
+use lib.Seq.{sets}
 use Rattle.semantics.proofs.Costs.{weigh}
 
 -- the words two workspaces differ in lie from lo up to hi
@@ -56,11 +52,7 @@ pub sets_apart : (ws : List ℕ) (at : ℕ) (vs : List ℕ) → Apart ws (sets w
 sets_apart ws at [] = record { same_length = refl; below = λ j l. refl; above = λ j l. refl }
 sets_apart ws at (v ∷ vs) =
     let h = sets_apart (set ws at v) (suc at) vs in
-    record {
-      same_length = h.same_length ∙ length-set ws at v;
-      below = λ j l. h.below j (omega arith) ∙ get_or-set_other ws at j v 0 (λ e. omega arith);
-      above = λ j l. h.above j (omega arith) ∙ get_or-set_other ws at j v 0 (λ e. omega arith);
-    }
+    search rules
 
 -- and stores what it says
 pub sets_stored : (ws : List ℕ) (at : ℕ) (vs : List ℕ) (k : ℕ) → k < length vs → at + length vs ≤ length ws → get_or (sets ws at vs) (at + k) 0 ≡ get_or vs k 0

@@ -1,17 +1,12 @@
 -- Segments: closed, with their targets counted from the start of the finished code. Assumes nothing.
-use mathlib.Core.Path.{◌≡◌, refl, sym, ap, subst, ◌∙◌}
-use mathlib.Core.Bool.{Bool, false}
-use mathlib.Core.List.{List, [], ◌∷◌, ◌++◌, map, append_assoc, append-nil}
-use Prim.Native.Nat.{ℕ, suc, ◌+◌, ◌*◌, ◌-◌, ◌/◌, ◌%◌, ◌≤◌}
-use native.Mathlib.Omega.{arith}
-use lib.ListN.{length, get_or, length-append, length-map}
+use Rattle.std.proofs.Common.{rules, ◌≡◌, refl, sym, ap, subst, ◌∙◌, Bool, false, List, [], ◌∷◌, ◌++◌, map, append_assoc, append-nil, ℕ, suc, ◌+◌, ◌*◌, ◌-◌, ◌/◌, ◌%◌, ◌≤◌, arith, length, get_or, length-append, le-leb}
+use lib.ListN.{length-map}
 use lib.Seq.{sets}
-use borrow.Author.Tests.{le-leb}
 use Rattle.program.specs.Instruction as I
 use Rattle.program.specs.Instruction.{Instruction}
 use Rattle.program.specs.Program.{Counts}
 use Rattle.program.specs.Image.{word_of}
-use Rattle.program.specs.Targets.{among, shift_of}
+use Rattle.program.specs.Targets.{shift_of}
 use Rattle.semantics.specs.Positions.{past}
 use Rattle.semantics.proofs.Ranges.{shift}
 use Rattle.semantics.proofs.Costs.{weigh}
@@ -23,12 +18,11 @@ use Rattle.semantics.specs.Link.{relocate, settle, place_segments}
 use Rattle.code.specs.Segments as G
 use Rattle.workspace.specs.Layout.{OPEN, FINISHED}
 use Rattle.builder.specs.Segments as T
-use Rattle.builder.specs.Fields.{set_top, set_base, set_finished, set_waiting}
-use Rattle.builder.specs.Steps.{Held}
+use Rattle.lowering.specs.Held.{Held}
 use Rattle.representation.proofs.Rows.{Rows, Apart, rows_agree, rows_append, rows_left, rows_right, sets_apart, sets_stored}
 use Rattle.representation.proofs.Represents.{ItemAt, InstructionAt, instruction_front, OpenCall, Fits, Content}
 use Rattle.representation.proofs.Keeps.{item_local, instruction_local, code_changed}
-use Rattle.representation.proofs.Targets.{mk, length_aimed}
+use Rattle.representation.proofs.Targets.{mk}
 
 -- ---- where segments are placed
 
@@ -37,16 +31,16 @@ unfolding place_segments
 place_snoc [] y n = append-nil (map (settle n 0 0) y)
 place_snoc (c ∷ cs) y n = ap (λ (l : List Instruction). map (settle n 0 0) c ++ l) (place_snoc cs y (past c n)) ∙ sym (append_assoc (map (settle n 0 0) c) (place_segments cs (past c n)) (map (settle (pasts cs (past c n)) 0 0) y))
 
-past_plus : (c : List Item) (n : ℕ) → past c n ≡ n + length c
-past_plus [] n = omega arith
-past_plus (x ∷ c) n = let h = past_plus c (suc n) in omega arith
+pub past_is : (c : List Item) (n : ℕ) → past c n ≡ n + length c
+past_is [] n = omega arith
+past_is (x ∷ c) n = let h = past_is c (suc n) in omega arith
 
 pub pasts_length : (cs : List (List Item)) (n : ℕ) → pasts cs n ≡ n + length (place_segments cs n)
 unfolding place_segments
 pasts_length [] n = omega arith
 pasts_length (c ∷ cs) n =
     let h = pasts_length cs (past c n) in
-    let p = past_plus c n in
+    let p = past_is c n in
     let l = length-append (map (settle n 0 0) c) (place_segments cs (past c n)) in
     let m = length-map c (settle n 0 0) in
     omega arith
@@ -56,104 +50,28 @@ pasts_length (c ∷ cs) n =
 pub relocate_front : (b : ℕ) (i : Instruction) → instruction_front (relocate b i) ≡ instruction_front i
 unfolding relocate word_of
 relocate_front b (I.plain (I.const c)) = refl
-relocate_front b (I.plain (I.hash c)) = refl
-relocate_front b (I.plain (I.resource c)) = refl
-relocate_front b (I.plain (I.this c)) = refl
-relocate_front b (I.plain (I.negate c)) = refl
-relocate_front b (I.plain (I.not c)) = refl
-relocate_front b (I.plain (I.and_last c)) = refl
-relocate_front b (I.plain (I.or_last c)) = refl
-relocate_front b (I.plain (I.post c)) = refl
-relocate_front b (I.plain (I.pointer_leave c)) = refl
-relocate_front b (I.plain (I.store_var c d)) = refl
-relocate_front b (I.plain (I.store_temp c d)) = refl
-relocate_front b (I.plain (I.store_member c d)) = refl
-relocate_front b (I.plain (I.cmp_const c d e)) = refl
-relocate_front b (I.plain (I.eq_const c d e)) = refl
-relocate_front b (I.plain (I.eq_hash c d e)) = refl
-relocate_front b (I.plain I.add_acc) = refl
 relocate_front b (I.taking (I.add_last c)) = refl
-relocate_front b (I.taking (I.mul c)) = refl
-relocate_front b (I.taking (I.div c)) = refl
-relocate_front b (I.taking (I.cmp c d)) = refl
-relocate_front b (I.taking (I.eq c d)) = refl
-relocate_front b (I.taking (I.host_math c d e)) = refl
 relocate_front b (I.reading (I.load_var c d)) = refl
-relocate_front b (I.reading (I.load_temp c d)) = refl
-relocate_front b (I.reading (I.load_ctx c d)) = refl
-relocate_front b (I.reading (I.array_element c d)) = refl
-relocate_front b (I.reading (I.member c d)) = refl
 relocate_front b (I.guard (I.div_guard c) t) = refl
-relocate_front b (I.guard (I.and_step c) t) = refl
-relocate_front b (I.guard (I.or_step c) t) = refl
-relocate_front b (I.guard (I.pointer_enter c) t) = refl
-relocate_front b (I.guard I.jump_if_falsy t) = refl
-relocate_front b (I.push) = refl
-relocate_front b (I.loop_end) = refl
-relocate_front b (I.halt) = refl
-relocate_front b (I.end) = refl
-relocate_front b (I.push_const c) = refl
-relocate_front b (I.jump t) = refl
-relocate_front b (I.handler_push t) = refl
-relocate_front b (I.handler_pop t) = refl
-relocate_front b (I.loop_begin t) = refl
-relocate_front b (I.loop_check t) = refl
-relocate_front b (I.each_begin t) = refl
-relocate_front b (I.return c) = refl
 relocate_front b (I.each_next (I.each_next_var c) t) = refl
-relocate_front b (I.each_next (I.each_next_temp c) t) = refl
-relocate_front b (I.call c d) = refl
+relocate_front b i = refl
 
 pub relocate_back : (b : ℕ) (i : Instruction) → (word_of (relocate b i)).a ≡ (word_of i).a + shift_of (word_of i).opcode b
 unfolding relocate word_of
 relocate_back b (I.plain (I.const c)) = omega arith
-relocate_back b (I.plain (I.hash c)) = omega arith
-relocate_back b (I.plain (I.resource c)) = omega arith
-relocate_back b (I.plain (I.this c)) = omega arith
-relocate_back b (I.plain (I.negate c)) = omega arith
-relocate_back b (I.plain (I.not c)) = omega arith
-relocate_back b (I.plain (I.and_last c)) = omega arith
-relocate_back b (I.plain (I.or_last c)) = omega arith
-relocate_back b (I.plain (I.post c)) = omega arith
-relocate_back b (I.plain (I.pointer_leave c)) = omega arith
-relocate_back b (I.plain (I.store_var c d)) = omega arith
-relocate_back b (I.plain (I.store_temp c d)) = omega arith
-relocate_back b (I.plain (I.store_member c d)) = omega arith
-relocate_back b (I.plain (I.cmp_const c d e)) = omega arith
-relocate_back b (I.plain (I.eq_const c d e)) = omega arith
-relocate_back b (I.plain (I.eq_hash c d e)) = omega arith
-relocate_back b (I.plain I.add_acc) = omega arith
 relocate_back b (I.taking (I.add_last c)) = omega arith
-relocate_back b (I.taking (I.mul c)) = omega arith
-relocate_back b (I.taking (I.div c)) = omega arith
-relocate_back b (I.taking (I.cmp c d)) = omega arith
-relocate_back b (I.taking (I.eq c d)) = omega arith
-relocate_back b (I.taking (I.host_math c d e)) = omega arith
 relocate_back b (I.reading (I.load_var c d)) = omega arith
-relocate_back b (I.reading (I.load_temp c d)) = omega arith
-relocate_back b (I.reading (I.load_ctx c d)) = omega arith
-relocate_back b (I.reading (I.array_element c d)) = omega arith
-relocate_back b (I.reading (I.member c d)) = omega arith
 relocate_back b (I.guard (I.div_guard c) t) = let h = shift b t in omega arith
-relocate_back b (I.guard (I.and_step c) t) = let h = shift b t in omega arith
-relocate_back b (I.guard (I.or_step c) t) = let h = shift b t in omega arith
-relocate_back b (I.guard (I.pointer_enter c) t) = let h = shift b t in omega arith
-relocate_back b (I.guard I.jump_if_falsy t) = let h = shift b t in omega arith
-relocate_back b (I.push) = omega arith
-relocate_back b (I.loop_end) = omega arith
-relocate_back b (I.halt) = omega arith
-relocate_back b (I.end) = omega arith
-relocate_back b (I.push_const c) = omega arith
+relocate_back b (I.guard g t) = let h = shift b t in omega arith
+relocate_back b (I.each_next (I.each_next_var c) t) = let h = shift b t in omega arith
+relocate_back b (I.each_next n t) = let h = shift b t in omega arith
 relocate_back b (I.jump t) = let h = shift b t in omega arith
 relocate_back b (I.handler_push t) = let h = shift b t in omega arith
 relocate_back b (I.handler_pop t) = let h = shift b t in omega arith
 relocate_back b (I.loop_begin t) = let h = shift b t in omega arith
 relocate_back b (I.loop_check t) = let h = shift b t in omega arith
 relocate_back b (I.each_begin t) = let h = shift b t in omega arith
-relocate_back b (I.return c) = omega arith
-relocate_back b (I.each_next (I.each_next_var c) t) = let h = shift b t in omega arith
-relocate_back b (I.each_next (I.each_next_temp c) t) = let h = shift b t in omega arith
-relocate_back b (I.call c d) = omega arith
+relocate_back b i = omega arith
 
 -- what an item settles to is its resolved instruction, relocated
 abbrev pub instruction_of : Item → Instruction
@@ -205,54 +123,39 @@ module _ (by : ℕ) where
       let one = move_one ws from to x h.0 (omega arith) in
       let vs = G.relocated_one ws from to by in
       let a = one.1 in
-      let al = a.same_length in
       let w = weigh_length 2 (map (aim 0 0) y) in
-      let m = length_aimed 0 0 y in
+      let m = length-map y (aim 0 0) in
       let rest : Rows 2 (ItemAt vs) (from + 2) (map (aim 0 0) y) = rows_agree 2 ItemAt item_local ws vs (from + 2) (map (aim 0 0) y) (λ j u z. a.below j (omega arith)) h.1 in
       let rec = move_range y vs (from + 2) (to + 2) (omega arith) (omega arith) rest in
-      let us = G.relocated_range vs (from + 2) (to + 2) (length y) by in
-      let d = rec.1 in (
-        (instruction_local vs us to (settle by 0 0 x) (λ j u z. d.below j (omega arith)) one.0, rec.0),
-        record { same_length = d.same_length ∙ al; below = λ j u. d.below j (omega arith) ∙ a.below j u; above = λ j u. d.above j (omega arith) ∙ a.above j (omega arith) },
-      )
+      search rules
 
 -- ---- a segment closed
 
 abbrev pub closed_state : List Item → State → State
 closed_state y s = set_pools (set_segments (s.pools.segments ++ (y ∷ [])) s.pools) s
 
-closed_is : (base n : ℕ) (w : Bool) (h : Held) → h.0.top - h.0.base ≡ n → h.0.finished + n ≤ 2048
-    → T.closed base w h ≡ (set_waiting w (set_finished (h.0.finished + n) (set_base base (set_top h.0.base h.0))), G.relocated_range h.1 (h.0.base * 2) (4096 + h.0.finished * 2) n h.0.finished)
-unfolding T.closed G.moved G.moved_count
-closed_is base n w h e l = rw (e, le-leb (h.0.finished + n) 2048 l)
-
 -- the same code in all
 pub close_back : (o k y : List Item) (w : Bool) (os : List OpenCall) (s : State) → Fits (mk o k w os (closed_state y s)) → Fits (mk (o ++ k) (map (aim 0 0) y) false os s)
 close_back o k y w os s f =
     let l1 = length-append o k in
-    let l2 = length_aimed 0 0 y in
+    let l2 = length-map y (aim 0 0) in
     let l3 = ap length (place_snoc s.pools.segments y 0) in
     let l4 = length-append (place_segments s.pools.segments 0) (map (settle (pasts s.pools.segments 0) 0 0) y) in
     let l5 = length-map y (settle (pasts s.pools.segments 0) 0 0) in
-    record { code = omega (arith, f.code, l1, l2, l3, l4, l5); consts = f.consts; posts = f.posts; hashes = f.hashes; names = f.names; temps = f.temps; members = f.members; stores = f.stores; paths = f.paths; calls = f.calls; arguments = f.arguments; operands = f.operands; loops = f.loops; handlers = f.handlers }
+    search rules
 
 module _ {tree : List ℕ} {c : Counts} where
   pub close_keep : (o k y : List Item) (w : Bool) (os : List OpenCall) (s : State) (base : ℕ) (h : Held) → base ≡ length o → Fits (mk o k w os (closed_state y s)) → Content tree c h (mk (o ++ k) (map (aim 0 0) y) false os s) → Content tree c (T.closed base w h) (mk o k w os (closed_state y s))
+  unfolding T.closed G.moved G.moved_count
   close_keep o k y w os s base h eb f r =
       let A = mk (o ++ k) (map (aim 0 0) y) false os s in
       let f0 = close_back o k y w os s f in
       let t = r.tables in
-      let bs = r.beside in
-      let ob = t.open_base in
-      let n = t.open_code.count in
-      let fn = t.the_finished_code.count in
       let en = r.enough in
-      let fc = f0.code in
       let segs = s.pools.segments in
       let F = place_segments segs 0 in
       let ln = length-append (o ++ k) (map (aim 0 0) y) in
-      let l1 = length-append o k in
-      let l2 = length_aimed 0 0 y in
+      let l2 = length-map y (aim 0 0) in
       let pl = pasts_length segs 0 in
       let size : h.0.top - h.0.base ≡ length y = omega arith in
       let room : h.0.finished + length y ≤ 2048 = omega arith in
@@ -262,13 +165,13 @@ module _ {tree : List ℕ} {c : Counts} where
       let wf = weigh_length 2 F in
       let ef : OPEN + weigh 2 (o ++ k) ≡ from = omega arith in
       let et : FINISHED + weigh 2 F ≡ to = omega arith in
-      let right = subst (λ (p : ℕ). Rows 2 (ItemAt h.1) p (map (aim 0 0) y)) ef (rows_right 2 (ItemAt h.1) OPEN (o ++ k) (map (aim 0 0) y) t.open_code.rows) in
-      let left = rows_left 2 (ItemAt h.1) OPEN (o ++ k) (map (aim 0 0) y) t.open_code.rows in
+      let right = subst (λ (p : ℕ). Rows 2 (ItemAt h.1) p (map (aim 0 0) y)) ef (rows_right 2 (ItemAt h.1) OPEN (o ++ k) (map (aim 0 0) y) t.code_held.open_code.rows) in
+      let left = rows_left 2 (ItemAt h.1) OPEN (o ++ k) (map (aim 0 0) y) t.code_held.open_code.rows in
       let g = move_range h.0.finished y h.1 from to (omega arith) (omega arith) right in
       let vs = G.relocated_range h.1 from to (length y) h.0.finished in
       let a = g.1 in
       let left' : Rows 2 (ItemAt vs) OPEN (o ++ k) = rows_agree 2 ItemAt item_local h.1 vs OPEN (o ++ k) (λ j u z. a.below j (omega arith)) left in
-      let old : Rows 2 (InstructionAt vs) FINISHED F = rows_agree 2 InstructionAt instruction_local h.1 vs FINISHED F (λ j u z. a.below j (omega arith)) t.the_finished_code.rows in
+      let old : Rows 2 (InstructionAt vs) FINISHED F = rows_agree 2 InstructionAt instruction_local h.1 vs FINISHED F (λ j u z. a.below j (omega arith)) t.code_held.the_finished_code.rows in
       let es : h.0.finished ≡ pasts segs 0 = omega arith in
       let new : Rows 2 (InstructionAt vs) to (map (settle (pasts segs 0) 0 0) y) = subst (λ (b : ℕ). Rows 2 (InstructionAt vs) to (map (settle b 0 0) y)) es g.0 in
       let rows = rows_append 2 (InstructionAt vs) FINISHED F (map (settle (pasts segs 0) 0 0) y) old (subst (λ (p : ℕ). Rows 2 (InstructionAt vs) p (map (settle (pasts segs 0) 0 0) y)) (sym et) new) in
@@ -277,9 +180,9 @@ module _ {tree : List ℕ} {c : Counts} where
       let lf = ap length e in
       let l4 = length-append F (map (settle (pasts segs 0) 0 0) y) in
       let l5 = length-map y (settle (pasts segs 0) 0 0) in
-      subst (λ (z : Held). Content tree c z (mk o k w os (closed_state y s))) (sym (closed_is base (length y) w h size room))
+      rw (size, le-leb (h.0.finished + length y) 2048 room)
       (record {
         enough = omega (arith, a.same_length, en);
-        beside = record { waiting_is = refl; stack_is = bs.stack_is; loops_is = bs.loops_is; handlers_is = bs.handlers_is; stack_max = bs.stack_max; loops_max = bs.loops_max; handlers_max = bs.handlers_max; stack_within = bs.stack_within; loops_within = bs.loops_within; handlers_within = bs.handlers_within; bits_are = bs.bits_are; float_loop_is = bs.float_loop_is; number_is = bs.number_is };
-        tables = code_changed tree h.1 vs A f0 (record { same_length = a.same_length; below = λ j u. a.below j (omega arith); above = λ j u. a.above j (omega arith) }) t h.0.base base (h.0.finished + length y) o k (segs ++ (y ∷ [])) eb (record { count = omega arith; rows = left' }) (record { count = omega arith; rows = rows' });
+        beside = search rules;
+        tables = code_changed tree h.1 vs A f0 a (omega arith) t {segments = segs ++ (y ∷ [])} (record { open_base = eb; open_code = record { count = omega arith; rows = left' }; the_finished_code = record { count = omega arith; rows = rows' } });
       })

@@ -1,13 +1,7 @@
 -- Nodes of a tree image that no question refuses: the texts of their names lie in it, and what the rules read in their payloads is what the definition reads. Assumes nothing.
-use mathlib.Core.Path.{◌≡◌, refl, sym, ap, subst, ◌∙◌}
-use mathlib.Core.Bool.{Bool, true, false, cond, ◌&&◌, false≢true}
-use mathlib.Core.List.{List}
-use Prim.Native.Nat.{ℕ, zero, suc, ◌+◌, ◌≤◌}
-use native.Mathlib.Omega.{arith}
+use Rattle.std.proofs.Common.{rules, ◌≡◌, refl, sym, ap, subst, ◌∙◌, Bool, true, false, cond, ◌&&◌, List, ℕ, zero, suc, ◌+◌, ◌≤◌, arith, length, get_or, leb, eqb, leb-true, eq-eqb, ne_eqb}
+use mathlib.Core.Bool.{false≢true}
 use native.Mathlib.Decide.{ℕ_discrete}
-use lib.Dec.{leb, eqb}
-use lib.ListN.{length, get_or}
-use borrow.Author.Tests.{leb-true, eq-eqb, ne_eqb}
 use Rattle.wire.specs.Bytes.{be8}
 use Rattle.ast.specs.Tree as T
 use Rattle.ast.specs.Header.{ROOT, LEVELS}
@@ -18,7 +12,7 @@ use Rattle.ast.proofs.PayloadKinds.{name_kind_lem}
 use Rattle.program.specs.Program.{Counts}
 use Rattle.payload.specs.declared.NameRef.{NameRef}
 use Rattle.payload.specs.declared.Payload.{Payload}
-use Rattle.payload.specs.declared.Payload.TheVariants.{None, Float, Hash, Context, Entity, Temp, Member, ArrayVariable, Geometry, Material, Texture, Query, HostMath}
+use Rattle.payload.specs.declared.Payload.TheVariants.{None, Hash, Context, Entity, Temp, Member, ArrayVariable, Geometry, Material, Texture, Query, HostMath}
 use Rattle.payload.specs.Payloads.{name_ref_at, payload_refs, payload_ref_at, named, meant}
 use Rattle.payload.proofs.Meant.{payload_meant}
 use Rattle.semantics.specs.Payloads as P
@@ -55,7 +49,7 @@ first_of S tree zero q l h = absurd (omega arith)
 first_of S tree (suc m) q l h = h.0
 
 pub first_sound : (n : ℕ) (tree : List ℕ) (p : ℕ) → 1 ≤ count_at tree p → Sound (suc n) tree p → Sound n tree (first_at tree p)
-first_sound n tree p l h = first_of (Sound n tree) tree (count_at tree p) (first_at tree p) l h.1
+first_sound n tree p l h = search rules
 
 -- ---- what no question refuses is sound
 
@@ -81,10 +75,7 @@ chosen false b h = absurd (false≢true h)
 row_says : (inside : ℕ → Bool) (s : List ℕ) (n p e : ℕ) → row inside s (suc n) p e ≡ true
     → (fits s p e ≡ true) × (inside p ≡ true) × (row inside s n (next_at s p) e ≡ true)
 unfolding row
-row_says inside s n p e h =
-    let x = chosen (fits s p e) (elim (inside p) as (λ _. Bool) [ true ↦ row inside s n (next_at s p) e | false ↦ false ]) h in
-    let y = chosen (inside p) (row inside s n (next_at s p) e) x.1 in
-    (x.0, y.0, y.1)
+row_says inside s n p e h = search rules
 
 row_sound : (s : List ℕ) (S : ℕ → Type 0) (inside : ℕ → Bool) → ((p e : ℕ) → e ≤ length s → fits s p e ≡ true → inside p ≡ true → S p)
     → (n p e : ℕ) → e ≤ length s → row inside s n p e ≡ true → SoundRow S s n p
@@ -105,9 +96,7 @@ rooted_sound n s h = (row_sound s (Sound n s) (filled n s) (filled_sound s n) 1 
 
 asked : (a b c : Bool) → ◌≡◌ {A = ℕ} (cond a (cond b (cond c 0 4) 3) 2) 0 → (a ≡ true) × (b ≡ true) × (c ≡ true)
 asked true true true h = (refl, refl, refl)
-asked true true false h = absurd (omega arith)
-asked true false c h = absurd (omega arith)
-asked false b c h = absurd (omega arith)
+asked a b c h = absurd (omega arith)
 
 pub sound : (tree : List ℕ) → questions tree ≡ 0 → Sound LEVELS tree ROOT
 unfolding questions shallow
@@ -115,19 +104,12 @@ sound tree h = rooted_sound LEVELS tree (asked (whole tree) (formed tree) (roote
 
 pub not_larger : (tree : List ℕ) → questions tree ≡ 0 → length tree ≤ 6144
 unfolding questions whole
-not_larger tree h =
-    let w = (asked _ (formed tree) (shallow tree) h).0 in
-    let x = both (leb 5 (length tree)) _ w in
-    let y = both (leb (length tree) 6144) _ x.1 in
-    leb-true (length tree) 6144 y.0
+not_larger tree h = search rules
 
 -- ---- the texts of a payload
 
 -- W holds of the payload if it is a name
 abbrev pub Names : (NameRef → Type 0) → Payload → Type 0
-Names W None = Unit {0}
-Names W (Float b) = Unit {0}
-Names W (Hash b) = Unit {0}
 Names W (Context r) = W r
 Names W (Entity r) = W r
 Names W (Temp r) = W r
@@ -136,13 +118,9 @@ Names W (ArrayVariable r) = W r
 Names W (Geometry r) = W r
 Names W (Material r) = W r
 Names W (Texture r) = W r
-Names W (Query q) = Unit {0}
-Names W (HostMath b) = Unit {0}
+Names W v = Unit {0}
 
 all_names : (W : NameRef → Type 0) → ((r : NameRef) → W r) → (v : Payload) → Names W v
-all_names W h None = tt
-all_names W h (Float b) = tt
-all_names W h (Hash b) = tt
 all_names W h (Context r) = h r
 all_names W h (Entity r) = h r
 all_names W h (Temp r) = h r
@@ -151,8 +129,7 @@ all_names W h (ArrayVariable r) = h r
 all_names W h (Geometry r) = h r
 all_names W h (Material r) = h r
 all_names W h (Texture r) = h r
-all_names W h (Query q) = tt
-all_names W h (HostMath b) = tt
+all_names W h v = tt
 
 abbrev pub Texts : List ℕ → Payload → Type 0
 Texts tree v = Names (TextOf tree) v
@@ -161,17 +138,10 @@ texts_of : (tree : List ℕ) (p k : ℕ) → (3 ≤ k → k ≤ 10 → TextOf tr
 texts_of tree p zero h = tt
 texts_of tree p (suc zero) h = tt
 texts_of tree p (suc (suc zero)) h = tt
-texts_of tree p (suc (suc (suc zero))) h = h (omega arith) (omega arith)
-texts_of tree p (suc (suc (suc (suc zero)))) h = h (omega arith) (omega arith)
-texts_of tree p (suc (suc (suc (suc (suc zero))))) h = h (omega arith) (omega arith)
-texts_of tree p (suc (suc (suc (suc (suc (suc zero)))))) h = h (omega arith) (omega arith)
-texts_of tree p (suc (suc (suc (suc (suc (suc (suc zero))))))) h = h (omega arith) (omega arith)
-texts_of tree p (suc (suc (suc (suc (suc (suc (suc (suc zero)))))))) h = h (omega arith) (omega arith)
-texts_of tree p (suc (suc (suc (suc (suc (suc (suc (suc (suc zero))))))))) h = h (omega arith) (omega arith)
-texts_of tree p (suc (suc (suc (suc (suc (suc (suc (suc (suc (suc zero)))))))))) h = h (omega arith) (omega arith)
 texts_of tree p (suc (suc (suc (suc (suc (suc (suc (suc (suc (suc (suc zero))))))))))) h = tt
 texts_of tree p (suc (suc (suc (suc (suc (suc (suc (suc (suc (suc (suc (suc zero)))))))))))) h = tt
 texts_of tree p (suc (suc (suc (suc (suc (suc (suc (suc (suc (suc (suc (suc (suc k))))))))))))) h = tt
+texts_of tree p k h = h (omega arith) (omega arith)
 
 pub texts : (tree : List ℕ) (p : ℕ) → NodeSound tree p → length tree ≤ 6144 → Texts tree (payload_ref_at tree p)
 unfolding payload_ref_at
@@ -189,9 +159,6 @@ module _ {X Y Z : Type 0} (R : X → (Z → Y) → Type 0) where
 module _ (tree : List ℕ) {X Y Z : Type 0} (R : X → (Z → Y) → Type 0) where
   name_case : (W : NameRef → Type 0) (k : ℕ) (v : Payload) → Names W v → (f : T.Name → X) {d : X} {D : Z → Y} {F : NameRef → Z → Y} → R d D → ((r : NameRef) → W r → R (f (named tree r)) (F r)) → R (P.as_name k (meant tree v) d f) (λ z. Q.as_name k v (D z) (λ r. F r z))
   unfolding P.as_name P.cases Q.as_name Q.cases
-  name_case W k None t f i h = i
-  name_case W k (Float b) t f i h = i
-  name_case W k (Hash b) t f i h = i
   name_case W k (Context r) t f i h = picked R 3 k (ℕ_discrete 3 k) (eqb 3 k) refl (h r t) i
   name_case W k (Entity r) t f i h = picked R 4 k (ℕ_discrete 4 k) (eqb 4 k) refl (h r t) i
   name_case W k (Temp r) t f i h = picked R 5 k (ℕ_discrete 5 k) (eqb 5 k) refl (h r t) i
@@ -200,56 +167,22 @@ module _ (tree : List ℕ) {X Y Z : Type 0} (R : X → (Z → Y) → Type 0) whe
   name_case W k (Geometry r) t f i h = picked R 8 k (ℕ_discrete 8 k) (eqb 8 k) refl (h r t) i
   name_case W k (Material r) t f i h = picked R 9 k (ℕ_discrete 9 k) (eqb 9 k) refl (h r t) i
   name_case W k (Texture r) t f i h = picked R 10 k (ℕ_discrete 10 k) (eqb 10 k) refl (h r t) i
-  name_case W k (Query q) t f i h = i
-  name_case W k (HostMath b) t f i h = i
+  name_case W k v t f i h = i
 
   hash_case : (v : Payload) → {d : X} {D : Z → Y} {f : ℕ → X} {F : ℕ → Z → Y} → R d D → ((x : ℕ) → R (f x) (F x)) → R (P.as_hash (meant tree v) d f) (λ z. Q.as_hash v (D z) (λ x. F x z))
   unfolding P.as_hash P.cases Q.as_hash Q.cases
-  hash_case None i h = i
-  hash_case (Float b) i h = i
   hash_case (Hash b) i h = h b
-  hash_case (Context r) i h = i
-  hash_case (Entity r) i h = i
-  hash_case (Temp r) i h = i
-  hash_case (Member r) i h = i
-  hash_case (ArrayVariable r) i h = i
-  hash_case (Geometry r) i h = i
-  hash_case (Material r) i h = i
-  hash_case (Texture r) i h = i
-  hash_case (Query q) i h = i
-  hash_case (HostMath b) i h = i
+  hash_case v i h = i
 
   math_case : (v : Payload) → {d : X} {D : Z → Y} {f : ℕ → X} {F : ℕ → Z → Y} → R d D → ((x : ℕ) → R (f x) (F x)) → R (P.as_math (meant tree v) d f) (λ z. Q.as_math v (D z) (λ x. F x z))
   unfolding P.as_math P.cases Q.as_math Q.cases
-  math_case None i h = i
-  math_case (Float b) i h = i
-  math_case (Hash b) i h = i
-  math_case (Context r) i h = i
-  math_case (Entity r) i h = i
-  math_case (Temp r) i h = i
-  math_case (Member r) i h = i
-  math_case (ArrayVariable r) i h = i
-  math_case (Geometry r) i h = i
-  math_case (Material r) i h = i
-  math_case (Texture r) i h = i
-  math_case (Query q) i h = i
   math_case (HostMath b) i h = h b
+  math_case v i h = i
 
   query_case : (v : Payload) → {d : X} {D : Z → Y} {f : ℕ → ℕ → X} {F : ℕ → ℕ → Z → Y} → R d D → ((x y : ℕ) → R (f x y) (F x y)) → R (P.as_query (meant tree v) d f) (λ z. Q.as_query v (D z) (λ x y. F x y z))
   unfolding P.as_query P.cases Q.as_query Q.cases
-  query_case None i h = i
-  query_case (Float b) i h = i
-  query_case (Hash b) i h = i
-  query_case (Context r) i h = i
-  query_case (Entity r) i h = i
-  query_case (Temp r) i h = i
-  query_case (Member r) i h = i
-  query_case (ArrayVariable r) i h = i
-  query_case (Geometry r) i h = i
-  query_case (Material r) i h = i
-  query_case (Texture r) i h = i
   query_case (Query q) i h = h q.index q.impl_idx
-  query_case (HostMath b) i h = i
+  query_case v i h = i
 
   pub name_related : (k p : ℕ) → NodeSound tree p → length tree ≤ 6144 → (f : T.Name → X) {d : X} {D : Z → Y} {F : NameRef → Z → Y} → R d D → ((r : NameRef) → TextOf tree r → R (f (named tree r)) (F r)) → R (P.as_name k (payload_at tree p) d f) (λ z. Q.as_name k (payload_ref_at tree p) (D z) (λ r. F r z))
   name_related k p s l f {d} {D} {F} i h = subst (λ (v : T.Payload). R (P.as_name k v d f) (λ z. Q.as_name k (payload_ref_at tree p) (D z) (λ r. F r z))) (payload_meant tree p) (name_case (TextOf tree) k (payload_ref_at tree p) (texts tree p s l) f i h)
@@ -287,18 +220,7 @@ module _ {tree : List ℕ} {c : Counts} where
 float_case : (tree : List ℕ) (v : Payload) → P.float_of (meant tree v) ≡ Q.float_of v
 unfolding P.float_of Q.float_of P.cases Q.cases
 float_case tree None = refl
-float_case tree (Float b) = refl
-float_case tree (Hash b) = refl
-float_case tree (Context r) = refl
-float_case tree (Entity r) = refl
-float_case tree (Temp r) = refl
-float_case tree (Member r) = refl
-float_case tree (ArrayVariable r) = refl
-float_case tree (Geometry r) = refl
-float_case tree (Material r) = refl
-float_case tree (Texture r) = refl
-float_case tree (Query q) = refl
-float_case tree (HostMath b) = refl
+float_case tree v = refl
 
 pub float_same : (tree : List ℕ) (p : ℕ) → P.float_of (payload_at tree p) ≡ Q.float_of (payload_ref_at tree p)
 float_same tree p = ap P.float_of (sym (payload_meant tree p)) ∙ float_case tree (payload_ref_at tree p)
@@ -306,18 +228,7 @@ float_same tree p = ap P.float_of (sym (payload_meant tree p)) ∙ float_case tr
 const_case : (tree : List ℕ) (v : Payload) → P.const_of (meant tree v) ≡ Q.const_of v
 unfolding P.const_of Q.const_of P.as_hash Q.as_hash P.float_of Q.float_of P.cases Q.cases
 const_case tree None = refl
-const_case tree (Float b) = refl
-const_case tree (Hash b) = refl
-const_case tree (Context r) = refl
-const_case tree (Entity r) = refl
-const_case tree (Temp r) = refl
-const_case tree (Member r) = refl
-const_case tree (ArrayVariable r) = refl
-const_case tree (Geometry r) = refl
-const_case tree (Material r) = refl
-const_case tree (Texture r) = refl
-const_case tree (Query q) = refl
-const_case tree (HostMath b) = refl
+const_case tree v = refl
 
 pub const_same : (tree : List ℕ) (p : ℕ) → P.const_of (payload_at tree p) ≡ Q.const_of (payload_ref_at tree p)
 const_same tree p = ap P.const_of (sym (payload_meant tree p)) ∙ const_case tree (payload_ref_at tree p)
@@ -325,18 +236,7 @@ const_same tree p = ap P.const_of (sym (payload_meant tree p)) ∙ const_case tr
 string_case : (tree : List ℕ) (v : Payload) → P.string_of (meant tree v) ≡ Q.string_of v
 unfolding P.string_of Q.string_of P.as_hash Q.as_hash P.cases Q.cases
 string_case tree None = refl
-string_case tree (Float b) = refl
-string_case tree (Hash b) = refl
-string_case tree (Context r) = refl
-string_case tree (Entity r) = refl
-string_case tree (Temp r) = refl
-string_case tree (Member r) = refl
-string_case tree (ArrayVariable r) = refl
-string_case tree (Geometry r) = refl
-string_case tree (Material r) = refl
-string_case tree (Texture r) = refl
-string_case tree (Query q) = refl
-string_case tree (HostMath b) = refl
+string_case tree v = refl
 
 pub string_same : (tree : List ℕ) (p : ℕ) → P.string_of (payload_at tree p) ≡ Q.string_of (payload_ref_at tree p)
 string_same tree p = ap P.string_of (sym (payload_meant tree p)) ∙ string_case tree (payload_ref_at tree p)
@@ -344,18 +244,7 @@ string_same tree p = ap P.string_of (sym (payload_meant tree p)) ∙ string_case
 resource_case : (tree : List ℕ) (v : Payload) → P.resource_of (meant tree v) ≡ Q.resource_of v
 unfolding P.resource_of Q.resource_of P.as_name Q.as_name ℕ_discrete P.cases Q.cases
 resource_case tree None = refl
-resource_case tree (Float b) = refl
-resource_case tree (Hash b) = refl
-resource_case tree (Context r) = refl
-resource_case tree (Entity r) = refl
-resource_case tree (Temp r) = refl
-resource_case tree (Member r) = refl
-resource_case tree (ArrayVariable r) = refl
-resource_case tree (Geometry r) = refl
-resource_case tree (Material r) = refl
-resource_case tree (Texture r) = refl
-resource_case tree (Query q) = refl
-resource_case tree (HostMath b) = refl
+resource_case tree v = refl
 
 pub resource_same : (tree : List ℕ) (p : ℕ) → P.resource_of (payload_at tree p) ≡ Q.resource_of (payload_ref_at tree p)
 resource_same tree p = ap P.resource_of (sym (payload_meant tree p)) ∙ resource_case tree (payload_ref_at tree p)

@@ -1,16 +1,11 @@
 -- An assignment's target: the path of a member store, the stores and their paths in the workspace. Assumes nothing.
+use Rattle.std.proofs.Common.{rules as common_rules, ◌≡◌, refl, sym, ap, subst, ◌∙◌, Bool, true, false, cond, ◌&&◌, List, [], ◌∷◌, ◌++◌, ℕ, zero, suc, ◌+◌, ◌*◌, ◌≤◌, ◌<◌, arith, length, get_or, length-append, eqb, ne_eqb, lt-ltb}
+use Rattle.std.specs.Prelude.{Option, None, Some}
+use Rattle.std.specs.Option.{option_map}
 use Rattle.answers.specs.declared.refusals.Refusal.TheVariants as Refusal
-use mathlib.Core.Path.{◌≡◌, refl, sym, ap, subst, ◌∙◌}
-use mathlib.Core.Bool.{Bool, true, false, cond, ◌&&◌, false≢true}
-use mathlib.Core.List.{List, [], ◌∷◌, ◌++◌}
-use Prim.Native.Nat.{ℕ, zero, suc, ◌+◌, ◌*◌, ◌≤◌, ◌<◌}
-use native.Mathlib.Omega.{arith}
 use native.Mathlib.Decide.{ℕ_discrete}
 use lib.Bits.{bit_and, bit_or}
-use lib.Dec.{eqb}
-use lib.ListN.{length, get_or, length-append}
 use lib.Seq.{sets}
-use borrow.Author.Tests.{ne_eqb, lt-ltb}
 use Rattle.ast.specs.Tree as T
 use Rattle.ast.specs.Header.{LEVELS}
 use Rattle.ast.specs.Rules.{refused, Rule, plain, rules, rule_of, rule_at}
@@ -21,7 +16,7 @@ use Rattle.program.specs.Program.{Counts, StoreRoot, root_var, root_temp, root_o
 use Rattle.program.specs.Image.{word_of}
 use Rattle.program.specs.Fits.{root_index}
 use Rattle.payload.specs.declared.Payload.{Payload}
-use Rattle.payload.specs.declared.Payload.TheVariants.{None, Float, Hash, Context, Entity, Temp, Member, ArrayVariable, Geometry, Material, Texture, Query, HostMath}
+use Rattle.payload.specs.declared.Payload.TheVariants.{None as NoPayload, Float, Hash, Context, Entity, Temp, Member, ArrayVariable, Geometry, Material, Texture, Query, HostMath}
 use Rattle.payload.specs.Payloads.{payload_ref_at, meant}
 use Rattle.payload.proofs.Meant.{payload_meant}
 use Rattle.semantics.specs.Payloads as P
@@ -36,18 +31,18 @@ use Rattle.workspace.specs.Layout.{STORES, PATHS, CALLS}
 use Rattle.card.specs.Holds.{HashIs, HashesAre, root_kind}
 use Rattle.lowering.specs.Regions.{appended_count, appended_words}
 use Rattle.builder.specs.Steps as W
-use Rattle.builder.specs.Steps.{Held}
+use Rattle.lowering.specs.Held.{Held}
 use Rattle.workspace.specs.Words.{high, low}
 use Rattle.lowering.specs.Pools.{Found}
 use Rattle.lowering.specs.declared.assign.PathEnd.{PathEnd}
 use Rattle.lowering.specs.Steps as L
 use Rattle.lowering.specs.Payloads as Q
-use Rattle.lowering.specs.Parts.{Step, instr, going, post_bits, path_added, store_added}
+use Rattle.lowering.specs.Parts.{Step, either, instr, going, post_bits, path_added, store_added}
 use Rattle.builder.specs.Steps.{still}
 use Rattle.lowering.specs.Rules as R
 use Rattle.representation.proofs.Rows.{Apart, Agree, rows_snoc, sets_apart, sets_stored}
-use Rattle.representation.proofs.Represents.{StoreAt, Abs, Fits, Table, Tables, finished_code, Content, Moves, Does, Enters, on_state, run}
-use Rattle.representation.proofs.Keeps.{agree_below, agree_above, hash_local, rows_moved, code_keep, finished_keep, consts_keep, posts_keep, hashes_keep, names_keep, temps_keep, members_keep, store_keep, calls_keep, open_keep}
+use Rattle.representation.proofs.Represents.{StoreAt, Abs, Fits, Table, Content, Moves, Does, Enters, on_state, run}
+use Rattle.representation.proofs.Keeps.{hash_local, rows_moved, store_keep, stores_changed}
 use Rattle.representation.proofs.Pools.{apart_wider}
 use Rattle.representation.proofs.Interning.{with_does, name_does, temp_does, post_does}
 use Rattle.representation.proofs.Laws.{flags_move, flagged_does}
@@ -68,76 +63,74 @@ unfolding all_added
 added_last [] x h = refl
 added_last (y ∷ xs) x h = added_last xs x (path_added y h)
 
--- the path m of the definition is the one that ends at e and whose hashes are added by G, in no more than n steps
-pub record PathIs (tree : List ℕ) (n : ℕ) (m : P.Path) (e : PathEnd) (G : Step) : Type 0 where
-  pub fine_is : m.fine ≡ e.fine
-  pub root_is : e.fine ≡ true → payload_at tree e.root ≡ m.root
-  pub root_sound : e.fine ≡ true → NodeSound tree e.root
-  pub count_is : e.fine ≡ true → e.count ≡ length m.hashes
-  pub short : e.fine ≡ true → length m.hashes ≤ n
-  pub adds : e.fine ≡ true → (h : Held) → G h ≡ all_added m.hashes h
+-- the path m of the definition ends at e, its hashes are added by G, in no more than n steps
+pub record EndsAt (tree : List ℕ) (n : ℕ) (m : P.Path) (e : PathEnd) (G : Step) : Type 0 where
+  pub fine_is : m.fine ≡ true
+  pub root_is : payload_at tree e.root ≡ m.root
+  pub root_sound : NodeSound tree e.root
+  pub count_is : e.count ≡ length m.hashes
+  pub short : length m.hashes ≤ n
+  pub adds : (h : Held) → G h ≡ all_added m.hashes h
 
-none_is : (tree : List ℕ) (n : ℕ) (m : P.Path) (G : Step) → m.fine ≡ false → PathIs tree n m R.no_path G
-none_is tree n m G e = record {
-  fine_is = e;
-  root_is = λ x. absurd (false≢true x);
-  root_sound = λ x. absurd (false≢true x);
-  count_is = λ x. absurd (false≢true x);
-  short = λ x. absurd (false≢true x);
-  adds = λ x. absurd (false≢true x);
-}
+-- the same where there may be none
+abbrev PathIs : List ℕ → ℕ → P.Path → Option PathEnd → Step → Type 0
+PathIs tree n m None G = m.fine ≡ false
+PathIs tree n m (Some e) G = EndsAt tree n m e G
 
-root_path_lem : (tree : List ℕ) (n p : ℕ) → NodeSound tree p → PathIs tree n (P.root_path (payload_at tree p)) (record { fine = true; root = p; count = 0 }) (λ h. h)
+root_path_lem : (tree : List ℕ) (n p : ℕ) → NodeSound tree p → PathIs tree n (P.root_path (payload_at tree p)) (Some (record { root = p; count = 0 })) (λ h. h)
 unfolding all_added
-root_path_lem tree n p s = record { fine_is = refl; root_is = λ x. refl; root_sound = λ x. s; count_is = λ x. refl; short = λ x. omega arith; adds = λ x h. refl }
+root_path_lem tree n p s = record { fine_is = refl; root_is = refl; root_sound = s; count_is = refl; short = omega arith; adds = λ h. refl }
 
-longer_path : (tree : List ℕ) (n x : ℕ) (m : P.Path) (e : PathEnd) (G : Step) → n ≤ LEVELS → PathIs tree n m e G → PathIs tree (suc n) (P.longer x m) (R.longer tree e) (λ h. path_added x (G h))
-longer_path tree n x m e G l i = record {
+longer_path : (tree : List ℕ) (n x : ℕ) (m : P.Path) (o : Option PathEnd) (G : Step) → n ≤ LEVELS → PathIs tree n m o G
+    → PathIs tree (suc n) (P.longer x m) (option_map (R.longer tree) o) (λ h. path_added x (G h))
+longer_path tree n x m None G l i = i
+longer_path tree n x m (Some e) G l i = record {
   fine_is = i.fine_is;
   root_is = i.root_is;
   root_sound = i.root_sound;
-  count_is = λ f. let a = i.count_is f in let b = i.short f in let c = length-append m.hashes (x ∷ []) in omega (arith, a, b, c, l);
-  short = λ f. let b = i.short f in let c = length-append m.hashes (x ∷ []) in omega (arith, b, c);
-  adds = λ f h. ap (path_added x) (i.adds f h) ∙ sym (added_last m.hashes x h);
+  count_is = let a = i.count_is in let b = i.short in let c = length-append m.hashes (x ∷ []) in omega (arith, a, b, c, l);
+  short = let b = i.short in let c = length-append m.hashes (x ∷ []) in omega (arith, b, c);
+  adds = λ h. ap (path_added x) (i.adds h) ∙ sym (added_last m.hashes x h);
 }
 
 module _ (tree : List ℕ) (n : ℕ) (short : n ≤ LEVELS) where
   -- a link, by how many children it has; its first child's path is known
   link_children : (c q x : ℕ) (G : Step) → (1 ≤ c → PathIs tree n (P.path (tree_at n tree q)) (R.path_end tree n q) G)
-      → PathIs tree (suc n) (P.longer x (P.paths (trees (tree_at n tree) tree c q))) (cond (eqb c 0) R.no_path (R.longer tree (R.path_end tree n q))) (λ h. path_added x (G h))
+      → PathIs tree (suc n) (P.longer x (P.paths (trees (tree_at n tree) tree c q))) (cond (eqb c 0) None (option_map (R.longer tree) (R.path_end tree n q))) (λ h. path_added x (G h))
   unfolding P.path trees
-  link_children zero q x G i = none_is tree (suc n) (P.longer x P.no_path) (λ h. path_added x (G h)) refl
+  link_children zero q x G i = refl
   link_children (suc c) q x G i =
-      subst (λ (b : Bool). PathIs tree (suc n) (P.longer x (P.path (tree_at n tree q))) (cond b R.no_path (R.longer tree (R.path_end tree n q))) (λ h. path_added x (G h))) (sym (ne_eqb (suc c) 0 (λ e. omega arith)))
+      subst (λ (b : Bool). PathIs tree (suc n) (P.longer x (P.path (tree_at n tree q))) (cond b None (option_map (R.longer tree) (R.path_end tree n q))) (λ h. path_added x (G h)))
+      (sym (ne_eqb (suc c) 0 (λ e. omega arith)))
       (longer_path tree n x (P.path (tree_at n tree q)) (R.path_end tree n q) G short (i (omega arith)))
 
   -- by the payload of the node
-  link_payload : (v : Payload) (m : P.Path) (e : PathEnd) (G : Step) → ((x : ℕ) → PathIs tree (suc n) (P.longer x m) e (λ h. path_added x (G h)))
-      → PathIs tree (suc n) (P.as_name 6 (meant tree v) P.no_path (λ y. P.longer y.hash m)) (Q.as_name 6 v R.no_path (λ y. e)) (λ h. Q.as_name 6 v h (λ y. path_added y.hash (G h)))
+  link_payload : (v : Payload) (m : P.Path) (o : Option PathEnd) (G : Step) → ((x : ℕ) → PathIs tree (suc n) (P.longer x m) o (λ h. path_added x (G h)))
+      → PathIs tree (suc n) (P.as_name 6 (meant tree v) P.no_path (λ y. P.longer y.hash m)) (Q.as_name 6 v None (λ y. o)) (λ h. Q.as_name 6 v h (λ y. path_added y.hash (G h)))
   unfolding P.as_name P.cases Q.as_name Q.cases ℕ_discrete
-  link_payload None m e G i = none_is tree (suc n) P.no_path (λ h. h) refl
-  link_payload (Float b) m e G i = none_is tree (suc n) P.no_path (λ h. h) refl
-  link_payload (Hash b) m e G i = none_is tree (suc n) P.no_path (λ h. h) refl
-  link_payload (Context r) m e G i = none_is tree (suc n) P.no_path (λ h. h) refl
-  link_payload (Entity r) m e G i = none_is tree (suc n) P.no_path (λ h. h) refl
-  link_payload (Temp r) m e G i = none_is tree (suc n) P.no_path (λ h. h) refl
-  link_payload (Member r) m e G i = i r.hash
-  link_payload (ArrayVariable r) m e G i = none_is tree (suc n) P.no_path (λ h. h) refl
-  link_payload (Geometry r) m e G i = none_is tree (suc n) P.no_path (λ h. h) refl
-  link_payload (Material r) m e G i = none_is tree (suc n) P.no_path (λ h. h) refl
-  link_payload (Texture r) m e G i = none_is tree (suc n) P.no_path (λ h. h) refl
-  link_payload (Query q) m e G i = none_is tree (suc n) P.no_path (λ h. h) refl
-  link_payload (HostMath b) m e G i = none_is tree (suc n) P.no_path (λ h. h) refl
+  link_payload NoPayload m o G i = refl
+  link_payload (Float b) m o G i = refl
+  link_payload (Hash b) m o G i = refl
+  link_payload (Context r) m o G i = refl
+  link_payload (Entity r) m o G i = refl
+  link_payload (Temp r) m o G i = refl
+  link_payload (Member r) m o G i = i r.hash
+  link_payload (ArrayVariable r) m o G i = refl
+  link_payload (Geometry r) m o G i = refl
+  link_payload (Material r) m o G i = refl
+  link_payload (Texture r) m o G i = refl
+  link_payload (Query q) m o G i = refl
+  link_payload (HostMath b) m o G i = refl
 
   -- by the rule's number
-  link_rule : (p : ℕ) → NodeSound tree p → (m : P.Path) (e : PathEnd) (G : Step)
-      → PathIs tree (suc n) (P.as_name 6 (payload_at tree p) P.no_path (λ y. P.longer y.hash m)) e G
-      → (k : ℕ) → PathIs tree (suc n) (P.link (get_or rules k (plain refused)) (payload_at tree p) m) (cond (eqb k 16) e (record { fine = true; root = p; count = 0 })) (λ h. cond (eqb k 16) (G h) h)
+  link_rule : (p : ℕ) → NodeSound tree p → (m : P.Path) (o : Option PathEnd) (G : Step)
+      → PathIs tree (suc n) (P.as_name 6 (payload_at tree p) P.no_path (λ y. P.longer y.hash m)) o G
+      → (k : ℕ) → PathIs tree (suc n) (P.link (get_or rules k (plain refused)) (payload_at tree p) m) (cond (eqb k 16) o (Some (record { root = p; count = 0 }))) (λ h. cond (eqb k 16) (G h) h)
   unfolding P.link
-  link_rule p s m e G i k =
-      by_rule (λ (k : ℕ) (r : Rule). PathIs tree (suc n) (P.link r (payload_at tree p) m) (cond (eqb k 16) e (record { fine = true; root = p; count = 0 })) (λ h. cond (eqb k 16) (G h) h))
+  link_rule p s m o G i k =
+      by_rule (λ (k : ℕ) (r : Rule). PathIs tree (suc n) (P.link r (payload_at tree p) m) (cond (eqb k 16) o (Some (record { root = p; count = 0 }))) (λ h. cond (eqb k 16) (G h) h))
       i (root_path_lem tree (suc n) p s) (root_path_lem tree (suc n) p s) (root_path_lem tree (suc n) p s)
-      (λ k r a b c. subst (λ (z : Bool). PathIs tree (suc n) (P.root_path (payload_at tree p)) (cond z e (record { fine = true; root = p; count = 0 })) (λ h. cond z (G h) h)) (sym (ne_eqb k 16 a)) (root_path_lem tree (suc n) p s)) k
+      (λ k r a b c. subst (λ (z : Bool). PathIs tree (suc n) (P.root_path (payload_at tree p)) (cond z o (Some (record { root = p; count = 0 }))) (λ h. cond z (G h) h)) (sym (ne_eqb k 16 a)) (root_path_lem tree (suc n) p s)) k
 
 pub path_is : (tree : List ℕ) (n p : ℕ) → n ≤ LEVELS → Sound n tree p → PathIs tree n (P.path (tree_at n tree p)) (R.path_end tree n p) (R.path_hashes tree n p)
 unfolding P.path tree_at rule_at R.path_end R.path_hashes
@@ -145,11 +138,11 @@ path_is tree zero p l s = absurd s
 path_is tree (suc n) p l s =
     let q = first_at tree p in
     let m = P.paths (trees (tree_at n tree) tree (count_at tree p) q) in
-    let e = cond (eqb (count_at tree p) 0) R.no_path (R.longer tree (R.path_end tree n q)) in
-    let below : PathIs tree (suc n) (P.as_name 6 (payload_at tree p) P.no_path (λ y. P.longer y.hash m)) (Q.as_name 6 (payload_ref_at tree p) R.no_path (λ y. e)) (λ h. Q.as_name 6 (payload_ref_at tree p) h (λ y. path_added y.hash (R.path_hashes tree n q h))) =
-    subst (λ (v : T.Payload). PathIs tree (suc n) (P.as_name 6 v P.no_path (λ y. P.longer y.hash m)) (Q.as_name 6 (payload_ref_at tree p) R.no_path (λ y. e)) (λ h. Q.as_name 6 (payload_ref_at tree p) h (λ y. path_added y.hash (R.path_hashes tree n q h)))) (payload_meant tree p)
-    (link_payload tree n (omega arith) (payload_ref_at tree p) m e (R.path_hashes tree n q) (λ x. link_children tree n (omega arith) (count_at tree p) q x (R.path_hashes tree n q) (λ c. path_is tree n q (omega arith) (first_sound n tree p c s)))) in
-    link_rule tree n (omega arith) p s.0 m (Q.as_name 6 (payload_ref_at tree p) R.no_path (λ y. e)) (λ h. Q.as_name 6 (payload_ref_at tree p) h (λ y. path_added y.hash (R.path_hashes tree n q h))) below (rule_of (op_at tree p))
+    let o : Option PathEnd = cond (eqb (count_at tree p) 0) None (option_map (R.longer tree) (R.path_end tree n q)) in
+    let below : PathIs tree (suc n) (P.as_name 6 (payload_at tree p) P.no_path (λ y. P.longer y.hash m)) (Q.as_name 6 (payload_ref_at tree p) None (λ y. o)) (λ h. Q.as_name 6 (payload_ref_at tree p) h (λ y. path_added y.hash (R.path_hashes tree n q h))) =
+    subst (λ (v : T.Payload). PathIs tree (suc n) (P.as_name 6 v P.no_path (λ y. P.longer y.hash m)) (Q.as_name 6 (payload_ref_at tree p) None (λ y. o)) (λ h. Q.as_name 6 (payload_ref_at tree p) h (λ y. path_added y.hash (R.path_hashes tree n q h)))) (payload_meant tree p)
+    (link_payload tree n (omega arith) (payload_ref_at tree p) m o (R.path_hashes tree n q) (λ x. link_children tree n (omega arith) (count_at tree p) q x (R.path_hashes tree n q) (λ c. path_is tree n q (omega arith) (first_sound n tree p c s)))) in
+    link_rule tree n (omega arith) p s.0 m (Q.as_name 6 (payload_ref_at tree p) None (λ y. o)) (λ h. Q.as_name 6 (payload_ref_at tree p) h (λ y. path_added y.hash (R.path_hashes tree n q h))) below (rule_of (op_at tree p))
 
 -- ---- the words of a path
 
@@ -177,10 +170,7 @@ path_hashes_lem (x ∷ xs) n ws f zero l =
     let a = path_apart xs (n + 1) vs in
     let e0 : at + 2 * 0 ≡ at + 0 = omega arith in
     let e1 : at + 2 * 0 + 1 ≡ at + 1 = omega arith in
-    record {
-      high = a.below (at + 2 * 0) (omega arith) ∙ ap (λ (j : ℕ). get_or vs j 0) e0 ∙ sets_stored ws at (high x ∷ low x ∷ []) 0 (omega arith) (omega arith);
-      low = a.below (at + 2 * 0 + 1) (omega arith) ∙ ap (λ (j : ℕ). get_or vs j 0) e1 ∙ sets_stored ws at (high x ∷ low x ∷ []) 1 (omega arith) (omega arith);
-    }
+    search common_rules
 path_hashes_lem (x ∷ xs) n ws f (suc k) l =
     let at = PATHS + 2 * n in
     let vs = sets ws at (high x ∷ low x ∷ []) in
@@ -213,51 +203,13 @@ entries_more : (xs : List MemberStore) (v : MemberStore) → path_entries (xs ++
 entries_more [] v = omega arith
 entries_more (x ∷ xs) v = let i = entries_more xs v in omega arith
 
-module _ (tree ws vs : List ℕ) (A : Abs) {top base finished consts posts hashes names temps members stores paths calls arguments : ℕ} where
-  -- words of the stores and their paths have changed: a new table for those; all else is as it was
-  pub behind_changed : Fits A → Apart ws vs STORES CALLS → Tables tree ws top base finished consts posts hashes names temps members stores paths calls arguments A.outer A.code A.open_calls A.state.pools →
-      (stores2 paths2 : ℕ) (xs : List MemberStore) → Table 4 (StoreAt paths2 vs) STORES stores2 xs → paths2 ≡ path_entries xs →
-      Tables tree vs top base finished consts posts hashes names temps members stores2 paths2 calls arguments A.outer A.code A.open_calls (set_stores xs A.state.pools)
-  behind_changed f a t stores2 paths2 xs s p =
-      let b = f.code in
-      let e = length-append A.outer A.code in
-      record {
-        open_base = t.open_base;
-        open_code = code_keep ws vs top (A.outer ++ A.code) (omega arith) (agree_below a (omega arith)) t.open_code;
-        the_finished_code = finished_keep ws vs finished (finished_code A.state.pools) (omega arith) (agree_below a (omega arith)) t.the_finished_code;
-        the_consts = consts_keep ws vs consts A.state.pools.consts f.consts (agree_below a (omega arith)) t.the_consts;
-        the_posts = posts_keep ws vs posts A.state.pools.posts f.posts (agree_below a (omega arith)) t.the_posts;
-        the_hashes = hashes_keep ws vs hashes A.state.pools.hashes f.hashes (agree_below a (omega arith)) t.the_hashes;
-        the_names = names_keep ws vs tree names A.state.pools.names f.names (agree_below a (omega arith)) t.the_names;
-        the_temps = temps_keep ws vs temps A.state.pools.temps f.temps (agree_below a (omega arith)) t.the_temps;
-        the_members = members_keep ws vs tree members A.state.pools.members f.members (agree_below a (omega arith)) t.the_members;
-        the_stores = s;
-        path_count = p;
-        call_count = t.call_count;
-        the_calls = calls_keep ws vs arguments CALLS 0 A.state.pools.calls (agree_above a (omega arith)) (agree_above a (omega arith)) t.the_calls;
-        the_open = open_keep ws vs arguments calls A.state.pools.calls A.open_calls t.call_count t.the_calls (agree_above a (omega arith)) (agree_above a (omega arith)) t.the_open;
-        argument_count = t.argument_count;
-      }
-
 module _ (v : MemberStore) where
   -- fewer stores fit as well
   back_store : (A : Abs) → Fits (on_state (store_state v) A) → Fits A
-  back_store A f = record {
-    code = f.code;
-    consts = f.consts;
-    posts = f.posts;
-    hashes = f.hashes;
-    names = f.names;
-    temps = f.temps;
-    members = f.members;
-    stores = omega (arith, f.stores, length-append A.state.pools.stores (v ∷ []));
-    paths = omega (arith, f.paths, entries_more A.state.pools.stores v);
-    calls = f.calls;
-    arguments = f.arguments;
-    operands = f.operands;
-    loops = f.loops;
-    handlers = f.handlers;
-  }
+  back_store A f =
+      let l = length-append A.state.pools.stores (v ∷ []) in
+      let e = entries_more A.state.pools.stores v in
+      search common_rules
 
   -- what is found, where there is room
   store_found : (h : Held) → h.0.stores < 192 → h.0.paths + length v.path ≤ 256 →
@@ -323,21 +275,22 @@ module _ (v : MemberStore) where
   pub store_enters : (tree : List ℕ) → Enters tree (store_state v) (λ s. length s.pools.stores) (λ h. store_added (root_kind v.root) (root_index v.root) h.0.paths (length v.path) (all_added v.path h))
   store_enters tree = record {
     back = back_store;
-    index = λ c A h f x. ap (λ (y : Found). y.0.index) (store_found h (less A h f x.tables.the_stores.count) (room A h f x.tables.path_count)) ∙ x.tables.the_stores.count;
+    index = λ c A h f x. ap (λ (y : Found). y.0.index) (store_found h (less A h f x.tables.stores_held.the_stores.count) (room A h f x.tables.stores_held.path_count)) ∙ x.tables.stores_held.the_stores.count;
     keep = λ c A h f x.
-        let l = less A h f x.tables.the_stores.count in
-        let m = room A h f x.tables.path_count in
+        let l = less A h f x.tables.stores_held.the_stores.count in
+        let m = room A h f x.tables.stores_held.path_count in
         let e = x.enough in
         let a = words_apart h.1 h.0.stores h.0.paths e l m in
         let n = a.same_length in
-        let p = x.tables.path_count in
+        let p = x.tables.stores_held.path_count in
         subst (λ (y : Found). Content tree c (y.0.state, y.1) (on_state (store_state v) A)) (sym (store_found h l m))
         (record {
           enough = omega (arith, n, e);
           beside = x.beside;
-          tables = behind_changed tree h.1 (store_words v h.0.stores h.0.paths h.1) A (back_store A f) a x.tables (h.0.stores + 1) (h.0.paths + length v.path) (A.state.pools.stores ++ (v ∷ []))
-              (more_stores h.1 h.0.stores h.0.paths e l m A.state.pools.stores x.tables.the_stores)
-              (omega (arith, p, entries_more A.state.pools.stores v));
+          tables = stores_changed tree h.1 (store_words v h.0.stores h.0.paths h.1) A (back_store A f) a x.tables (record {
+            the_stores = more_stores h.1 h.0.stores h.0.paths e l m A.state.pools.stores x.tables.stores_held.the_stores;
+            path_count = omega (arith, p, entries_more A.state.pools.stores v);
+          });
         });
   }
     where
@@ -362,7 +315,7 @@ pub members_move : {tree : List ℕ} {c : Counts} → Moves tree (on_state (λ s
 unfolding S.sets S.not_float_only L.flagged L.not_float_only
 members_move = flags_move (λ f. S.sets USES_MEMBERS (S.not_float_only f)) (λ s. L.flagged 16 (L.not_float_only s)) (λ s f a b. (ap (λ (x : ℕ). bit_or (bit_and x 2046) 16) a, refl)) (λ s. refl)
 
-module _ (tree : List ℕ) (c : Counts) (n p : ℕ) (m : P.Path) (e : PathEnd) (q : ℕ) (small : length tree ≤ 6144) (same : PathIs tree n m e (R.path_hashes tree n p)) (good : e.fine ≡ true) where
+module _ (tree : List ℕ) (c : Counts) (n p : ℕ) (m : P.Path) (e : PathEnd) (q : ℕ) (small : length tree ≤ 6144) (same : EndsAt tree n m e (R.path_hashes tree n p)) where
   abbrev rooted : StoreRoot → Lowering
   rooted r = with_store (record { root = r; path = m.hashes }) λ k. put (I.plain (I.store_member k q))
 
@@ -371,44 +324,41 @@ module _ (tree : List ℕ) (c : Counts) (n p : ℕ) (m : P.Path) (e : PathEnd) (
   unfolding R.store_as word_of
   store_as_lem r kind index a b =
       does_same {F = λ h. going (store_added (root_kind r) (root_index r) h.0.paths (length m.hashes) (all_added m.hashes h)) λ k. instr 12 0 k q}
-      (λ h. rw (a, b, sym (same.count_is good), sym (same.adds good h)))
+      (λ h. rw (a, b, sym (same.count_is), sym (same.adds h)))
       (store_with (record { root = r; path = m.hashes }) (λ i. instr_does (I.plain (I.store_member i q)) refl))
 
   root_temp_lem : Does tree (P.as_name 5 (payload_at tree e.root) (rooted root_other) (λ x. with_temp x λ t. rooted (root_temp t))) c (R.root_temp tree e.root n p e.count q)
   unfolding R.root_temp root_kind root_index
-  root_temp_lem = as_name_lem 5 e.root (same.root_sound good) small (λ x. with_temp x λ t. rooted (root_temp t)) (store_as_lem root_other 2 0 refl refl) (λ r t. temp_does r t (λ i. store_as_lem (root_temp i) 1 i refl refl))
+  root_temp_lem = as_name_lem 5 e.root (same.root_sound) small (λ x. with_temp x λ t. rooted (root_temp t)) (store_as_lem root_other 2 0 refl refl) (λ r t. temp_does r t (λ i. store_as_lem (root_temp i) 1 i refl refl))
 
   root_var_lem : Does tree (D.with_root m.root rooted) c (R.root_var tree e.root n p e.count q)
   unfolding D.with_root R.root_var root_kind root_index
   root_var_lem =
-      subst (λ (v : T.Payload). Does tree (D.with_root v rooted) c (R.root_var tree e.root n p e.count q)) (same.root_is good)
-      (as_name_lem 4 e.root (same.root_sound good) small (λ x. with_name x λ k. rooted (root_var k)) root_temp_lem (λ r t. name_does r t (λ i. store_as_lem (root_var i) 0 i refl refl)))
+      subst (λ (v : T.Payload). Does tree (D.with_root v rooted) c (R.root_var tree e.root n p e.count q)) (same.root_is)
+      (as_name_lem 4 e.root (same.root_sound) small (λ x. with_name x λ k. rooted (root_var k)) root_temp_lem (λ r t. name_does r t (λ i. store_as_lem (root_var i) 0 i refl refl)))
 
   member_store_lem : Does tree (D.member_store m q) c (λ h. R.root_var tree e.root n p e.count q (still (λ s. L.flagged 16 (L.not_float_only s)) h))
   unfolding D.member_store
   member_store_lem = flagged_does (λ f. S.sets USES_MEMBERS (S.not_float_only f)) (λ s. L.flagged 16 (L.not_float_only s)) members_move root_var_lem
 
--- the path is there and fine, or the target is refused
-member_if : {tree : List ℕ} {c : Counts} (b : Bool) {f : Lowering} {F : Step} → (b ≡ true → Does tree f c F) → Does tree (cond b f (failing 7)) c (λ h. cond b (F h) (W.failed Refusal.Failed h))
-member_if true d = d refl
-member_if false d = failing_does Refusal.Failed
-
-second : (a b : Bool) → (a && b) ≡ true → b ≡ true
-second true b h = h
-second false b h = absurd (false≢true h)
-
 module _ (tree : List ℕ) (c : Counts) (n p : ℕ) (few : n ≤ LEVELS) (sound : Sound n tree p) (small : length tree ≤ 6144) where
   abbrev path : P.Path
   path = P.path (tree_at n tree p)
 
+  -- by whether the target is a link, and by where its path ends
+  member_if : (q : ℕ) (b : Bool) (o : Option PathEnd) → PathIs tree n path o (R.path_hashes tree n p) → Does tree (cond (b && path.fine) (D.member_store path q) (failing 7)) c
+      (either b (R.with_path o λ e h. R.root_var tree e.root n p e.count q (still (λ s. L.flagged 16 (L.not_float_only s)) h)) (W.failed Refusal.Failed))
+  member_if q false o i = failing_does Refusal.Failed
+  member_if q true None i = subst (λ (x : Bool). Does tree (cond x (D.member_store path q) (failing 7)) c (W.failed Refusal.Failed)) (sym i) (failing_does Refusal.Failed)
+  member_if q true (Some e) i =
+      subst (λ (x : Bool). Does tree (cond x (D.member_store path q) (failing 7)) c (λ h. R.root_var tree e.root n p e.count q (still (λ s. L.flagged 16 (L.not_float_only s)) h)))
+      (sym i.fine_is) (member_store_lem tree c n p path e q small i)
+
   store_member_lem : (q : ℕ) → Does tree (cond (D.is_member (rule_at (op_at tree p)) && path.fine) (D.member_store path q) (failing 7)) c (R.store_member tree n p q)
   unfolding R.store_member
   store_member_lem q =
-      let e = R.path_end tree n p in
-      let i = path_is tree n p few sound in
-      let b : (R.is_link tree p && e.fine) ≡ (D.is_member (rule_at (op_at tree p)) && path.fine) = rw (member_same tree p, i.fine_is) in
-      subst (λ (x : Bool). Does tree (cond x (D.member_store path q) (failing 7)) c (R.store_member tree n p q)) b
-      (member_if (R.is_link tree p && e.fine) (λ g. member_store_lem tree c n p path e q small i (second (R.is_link tree p) e.fine g)))
+      subst (λ (x : Bool). Does tree (cond (x && path.fine) (D.member_store path q) (failing 7)) c (R.store_member tree n p q)) (sym (member_same tree p))
+      (member_if q (R.is_link tree p) (R.path_end tree n p) (path_is tree n p few sound))
 
   store_temp_lem : (q : ℕ) → Does tree (P.as_name 5 (payload_at tree p) (cond (D.is_member (rule_at (op_at tree p)) && path.fine) (D.member_store path q) (failing 7)) (λ x. with_temp x λ t. put (I.plain (I.store_temp t q)))) c (R.store_temp tree n p q)
   unfolding R.store_temp word_of

@@ -1,18 +1,10 @@
 -- An assignment's target by the number of its rule: the words' rule is the definition's. Assumes nothing.
-use Rattle.std.proofs.Common.{Option, None, Some}
+use Rattle.std.proofs.Common.{Option, None, Some, ◌≡◌, refl, sym, cond, List, ℕ, zero, suc, arith, get_or, eqb, ne_eqb}
 use Rattle.answers.specs.Refusals.{number_of_first}
 use Rattle.answers.specs.declared.refusals.Refusal.{Refusal}
 use Rattle.answers.specs.declared.refusals.Refusal.TheVariants.{Failed, WriteToOtherMob}
-use mathlib.Core.Path.{◌≡◌, refl, sym}
-use mathlib.Core.Bool.{true, false, cond}
-use mathlib.Core.List.{List}
-use Prim.Native.Nat.{ℕ, zero, suc}
-use native.Mathlib.Omega.{arith}
-use lib.Dec.{eqb}
-use lib.ListN.{get_or}
-use borrow.Author.Tests.{ne_eqb}
 use Rattle.ast.specs.Tree as T
-use Rattle.ast.specs.Rules.{Plain, array, uses_arrays, uses_resources, float, string, resource, this, load, query, compare, equal, logic, coalesce, conditional, statements, loop, for_each, break, continue, assign, bracket, unary, add, mul, div, host_math, generic, refused, Rule, return, member, entity, pointer, plain, rules, rule_of, rule_at}
+use Rattle.ast.specs.Rules.{Plain, refused, Rule, return, member, entity, pointer, plain, rules, rule_of, rule_at}
 use Rattle.ast.specs.Node.{op_at, payload_at}
 use Rattle.payload.specs.Payloads.{payload_ref_at}
 use Rattle.semantics.specs.Payloads as P
@@ -24,60 +16,12 @@ use Rattle.representation.proofs.Sound.{name_always}
 -- what holds of each rule with its number holds of all numbers; the rules that no other rule looks at are one case
 pub by_rule : (C : ℕ → Rule → Type 0) → C 16 member → C 13 entity → C 34 pointer → C 44 return → ((k : ℕ) (r : Plain) → (k ≡ 16 → ⊥) → (k ≡ 13 → ⊥) → (k ≡ 34 → ⊥) → C k (plain r)) → (k : ℕ) → C k (get_or rules k (plain refused))
 unfolding rules
-by_rule C m e p r o zero = o 0 refused (λ x. omega arith) (λ x. omega arith) (λ x. omega arith)
-by_rule C m e p r o (suc zero) = o 1 array (λ x. omega arith) (λ x. omega arith) (λ x. omega arith)
-by_rule C m e p r o (suc (suc zero)) = o 2 uses_arrays (λ x. omega arith) (λ x. omega arith) (λ x. omega arith)
-by_rule C m e p r o (suc (suc (suc zero))) = o 3 uses_arrays (λ x. omega arith) (λ x. omega arith) (λ x. omega arith)
-by_rule C m e p r o (suc (suc (suc (suc zero)))) = o 4 uses_resources (λ x. omega arith) (λ x. omega arith) (λ x. omega arith)
-by_rule C m e p r o (suc (suc (suc (suc (suc zero))))) = o 5 uses_resources (λ x. omega arith) (λ x. omega arith) (λ x. omega arith)
-by_rule C m e p r o (suc (suc (suc (suc (suc (suc zero)))))) = o 6 uses_resources (λ x. omega arith) (λ x. omega arith) (λ x. omega arith)
-by_rule C m e p r o (suc (suc (suc (suc (suc (suc (suc zero))))))) = o 7 float (λ x. omega arith) (λ x. omega arith) (λ x. omega arith)
-by_rule C m e p r o (suc (suc (suc (suc (suc (suc (suc (suc zero)))))))) = o 8 string (λ x. omega arith) (λ x. omega arith) (λ x. omega arith)
-by_rule C m e p r o (suc (suc (suc (suc (suc (suc (suc (suc (suc zero))))))))) = o 9 resource (λ x. omega arith) (λ x. omega arith) (λ x. omega arith)
-by_rule C m e p r o (suc (suc (suc (suc (suc (suc (suc (suc (suc (suc zero)))))))))) = o 10 resource (λ x. omega arith) (λ x. omega arith) (λ x. omega arith)
-by_rule C m e p r o (suc (suc (suc (suc (suc (suc (suc (suc (suc (suc (suc zero))))))))))) = o 11 resource (λ x. omega arith) (λ x. omega arith) (λ x. omega arith)
-by_rule C m e p r o (suc (suc (suc (suc (suc (suc (suc (suc (suc (suc (suc (suc zero)))))))))))) = o 12 this (λ x. omega arith) (λ x. omega arith) (λ x. omega arith)
 by_rule C m e p r o (suc (suc (suc (suc (suc (suc (suc (suc (suc (suc (suc (suc (suc zero))))))))))))) = e
-by_rule C m e p r o (suc (suc (suc (suc (suc (suc (suc (suc (suc (suc (suc (suc (suc (suc zero)))))))))))))) = o 14 load (λ x. omega arith) (λ x. omega arith) (λ x. omega arith)
-by_rule C m e p r o (suc (suc (suc (suc (suc (suc (suc (suc (suc (suc (suc (suc (suc (suc (suc zero))))))))))))))) = o 15 load (λ x. omega arith) (λ x. omega arith) (λ x. omega arith)
 by_rule C m e p r o (suc (suc (suc (suc (suc (suc (suc (suc (suc (suc (suc (suc (suc (suc (suc (suc zero)))))))))))))))) = m
-by_rule C m e p r o (suc (suc (suc (suc (suc (suc (suc (suc (suc (suc (suc (suc (suc (suc (suc (suc (suc zero))))))))))))))))) = o 17 query (λ x. omega arith) (λ x. omega arith) (λ x. omega arith)
-by_rule C m e p r o (suc (suc (suc (suc (suc (suc (suc (suc (suc (suc (suc (suc (suc (suc (suc (suc (suc (suc zero)))))))))))))))))) = o 18 (compare 0) (λ x. omega arith) (λ x. omega arith) (λ x. omega arith)
-by_rule C m e p r o (suc (suc (suc (suc (suc (suc (suc (suc (suc (suc (suc (suc (suc (suc (suc (suc (suc (suc (suc zero))))))))))))))))))) = o 19 (compare 1) (λ x. omega arith) (λ x. omega arith) (λ x. omega arith)
-by_rule C m e p r o (suc (suc (suc (suc (suc (suc (suc (suc (suc (suc (suc (suc (suc (suc (suc (suc (suc (suc (suc (suc zero)))))))))))))))))))) = o 20 (compare 2) (λ x. omega arith) (λ x. omega arith) (λ x. omega arith)
-by_rule C m e p r o (suc (suc (suc (suc (suc (suc (suc (suc (suc (suc (suc (suc (suc (suc (suc (suc (suc (suc (suc (suc (suc zero))))))))))))))))))))) = o 21 (compare 3) (λ x. omega arith) (λ x. omega arith) (λ x. omega arith)
-by_rule C m e p r o (suc (suc (suc (suc (suc (suc (suc (suc (suc (suc (suc (suc (suc (suc (suc (suc (suc (suc (suc (suc (suc (suc zero)))))))))))))))))))))) = o 22 (equal 0) (λ x. omega arith) (λ x. omega arith) (λ x. omega arith)
-by_rule C m e p r o (suc (suc (suc (suc (suc (suc (suc (suc (suc (suc (suc (suc (suc (suc (suc (suc (suc (suc (suc (suc (suc (suc (suc zero))))))))))))))))))))))) = o 23 (equal 1) (λ x. omega arith) (λ x. omega arith) (λ x. omega arith)
-by_rule C m e p r o (suc (suc (suc (suc (suc (suc (suc (suc (suc (suc (suc (suc (suc (suc (suc (suc (suc (suc (suc (suc (suc (suc (suc (suc zero)))))))))))))))))))))))) = o 24 (logic true) (λ x. omega arith) (λ x. omega arith) (λ x. omega arith)
-by_rule C m e p r o (suc (suc (suc (suc (suc (suc (suc (suc (suc (suc (suc (suc (suc (suc (suc (suc (suc (suc (suc (suc (suc (suc (suc (suc (suc zero))))))))))))))))))))))))) = o 25 (logic false) (λ x. omega arith) (λ x. omega arith) (λ x. omega arith)
-by_rule C m e p r o (suc (suc (suc (suc (suc (suc (suc (suc (suc (suc (suc (suc (suc (suc (suc (suc (suc (suc (suc (suc (suc (suc (suc (suc (suc (suc zero)))))))))))))))))))))))))) = o 26 coalesce (λ x. omega arith) (λ x. omega arith) (λ x. omega arith)
-by_rule C m e p r o (suc (suc (suc (suc (suc (suc (suc (suc (suc (suc (suc (suc (suc (suc (suc (suc (suc (suc (suc (suc (suc (suc (suc (suc (suc (suc (suc zero))))))))))))))))))))))))))) = o 27 conditional (λ x. omega arith) (λ x. omega arith) (λ x. omega arith)
-by_rule C m e p r o (suc (suc (suc (suc (suc (suc (suc (suc (suc (suc (suc (suc (suc (suc (suc (suc (suc (suc (suc (suc (suc (suc (suc (suc (suc (suc (suc (suc zero)))))))))))))))))))))))))))) = o 28 statements (λ x. omega arith) (λ x. omega arith) (λ x. omega arith)
-by_rule C m e p r o (suc (suc (suc (suc (suc (suc (suc (suc (suc (suc (suc (suc (suc (suc (suc (suc (suc (suc (suc (suc (suc (suc (suc (suc (suc (suc (suc (suc (suc zero))))))))))))))))))))))))))))) = o 29 loop (λ x. omega arith) (λ x. omega arith) (λ x. omega arith)
-by_rule C m e p r o (suc (suc (suc (suc (suc (suc (suc (suc (suc (suc (suc (suc (suc (suc (suc (suc (suc (suc (suc (suc (suc (suc (suc (suc (suc (suc (suc (suc (suc (suc zero)))))))))))))))))))))))))))))) = o 30 for_each (λ x. omega arith) (λ x. omega arith) (λ x. omega arith)
-by_rule C m e p r o (suc (suc (suc (suc (suc (suc (suc (suc (suc (suc (suc (suc (suc (suc (suc (suc (suc (suc (suc (suc (suc (suc (suc (suc (suc (suc (suc (suc (suc (suc (suc zero))))))))))))))))))))))))))))))) = o 31 break (λ x. omega arith) (λ x. omega arith) (λ x. omega arith)
-by_rule C m e p r o (suc (suc (suc (suc (suc (suc (suc (suc (suc (suc (suc (suc (suc (suc (suc (suc (suc (suc (suc (suc (suc (suc (suc (suc (suc (suc (suc (suc (suc (suc (suc (suc zero)))))))))))))))))))))))))))))))) = o 32 continue (λ x. omega arith) (λ x. omega arith) (λ x. omega arith)
-by_rule C m e p r o (suc (suc (suc (suc (suc (suc (suc (suc (suc (suc (suc (suc (suc (suc (suc (suc (suc (suc (suc (suc (suc (suc (suc (suc (suc (suc (suc (suc (suc (suc (suc (suc (suc zero))))))))))))))))))))))))))))))))) = o 33 assign (λ x. omega arith) (λ x. omega arith) (λ x. omega arith)
 by_rule C m e p r o (suc (suc (suc (suc (suc (suc (suc (suc (suc (suc (suc (suc (suc (suc (suc (suc (suc (suc (suc (suc (suc (suc (suc (suc (suc (suc (suc (suc (suc (suc (suc (suc (suc (suc zero)))))))))))))))))))))))))))))))))) = p
-by_rule C m e p r o (suc (suc (suc (suc (suc (suc (suc (suc (suc (suc (suc (suc (suc (suc (suc (suc (suc (suc (suc (suc (suc (suc (suc (suc (suc (suc (suc (suc (suc (suc (suc (suc (suc (suc (suc zero))))))))))))))))))))))))))))))))))) = o 35 bracket (λ x. omega arith) (λ x. omega arith) (λ x. omega arith)
-by_rule C m e p r o (suc (suc (suc (suc (suc (suc (suc (suc (suc (suc (suc (suc (suc (suc (suc (suc (suc (suc (suc (suc (suc (suc (suc (suc (suc (suc (suc (suc (suc (suc (suc (suc (suc (suc (suc (suc zero)))))))))))))))))))))))))))))))))))) = o 36 bracket (λ x. omega arith) (λ x. omega arith) (λ x. omega arith)
-by_rule C m e p r o (suc (suc (suc (suc (suc (suc (suc (suc (suc (suc (suc (suc (suc (suc (suc (suc (suc (suc (suc (suc (suc (suc (suc (suc (suc (suc (suc (suc (suc (suc (suc (suc (suc (suc (suc (suc (suc zero))))))))))))))))))))))))))))))))))))) = o 37 (unary true) (λ x. omega arith) (λ x. omega arith) (λ x. omega arith)
-by_rule C m e p r o (suc (suc (suc (suc (suc (suc (suc (suc (suc (suc (suc (suc (suc (suc (suc (suc (suc (suc (suc (suc (suc (suc (suc (suc (suc (suc (suc (suc (suc (suc (suc (suc (suc (suc (suc (suc (suc (suc zero)))))))))))))))))))))))))))))))))))))) = o 38 (unary false) (λ x. omega arith) (λ x. omega arith) (λ x. omega arith)
-by_rule C m e p r o (suc (suc (suc (suc (suc (suc (suc (suc (suc (suc (suc (suc (suc (suc (suc (suc (suc (suc (suc (suc (suc (suc (suc (suc (suc (suc (suc (suc (suc (suc (suc (suc (suc (suc (suc (suc (suc (suc (suc zero))))))))))))))))))))))))))))))))))))))) = o 39 add (λ x. omega arith) (λ x. omega arith) (λ x. omega arith)
-by_rule C m e p r o (suc (suc (suc (suc (suc (suc (suc (suc (suc (suc (suc (suc (suc (suc (suc (suc (suc (suc (suc (suc (suc (suc (suc (suc (suc (suc (suc (suc (suc (suc (suc (suc (suc (suc (suc (suc (suc (suc (suc (suc zero)))))))))))))))))))))))))))))))))))))))) = o 40 mul (λ x. omega arith) (λ x. omega arith) (λ x. omega arith)
-by_rule C m e p r o (suc (suc (suc (suc (suc (suc (suc (suc (suc (suc (suc (suc (suc (suc (suc (suc (suc (suc (suc (suc (suc (suc (suc (suc (suc (suc (suc (suc (suc (suc (suc (suc (suc (suc (suc (suc (suc (suc (suc (suc (suc zero))))))))))))))))))))))))))))))))))))))))) = o 41 div (λ x. omega arith) (λ x. omega arith) (λ x. omega arith)
-by_rule C m e p r o (suc (suc (suc (suc (suc (suc (suc (suc (suc (suc (suc (suc (suc (suc (suc (suc (suc (suc (suc (suc (suc (suc (suc (suc (suc (suc (suc (suc (suc (suc (suc (suc (suc (suc (suc (suc (suc (suc (suc (suc (suc (suc zero)))))))))))))))))))))))))))))))))))))))))) = o 42 (host_math false) (λ x. omega arith) (λ x. omega arith) (λ x. omega arith)
-by_rule C m e p r o (suc (suc (suc (suc (suc (suc (suc (suc (suc (suc (suc (suc (suc (suc (suc (suc (suc (suc (suc (suc (suc (suc (suc (suc (suc (suc (suc (suc (suc (suc (suc (suc (suc (suc (suc (suc (suc (suc (suc (suc (suc (suc (suc zero))))))))))))))))))))))))))))))))))))))))))) = o 43 (host_math true) (λ x. omega arith) (λ x. omega arith) (λ x. omega arith)
 by_rule C m e p r o (suc (suc (suc (suc (suc (suc (suc (suc (suc (suc (suc (suc (suc (suc (suc (suc (suc (suc (suc (suc (suc (suc (suc (suc (suc (suc (suc (suc (suc (suc (suc (suc (suc (suc (suc (suc (suc (suc (suc (suc (suc (suc (suc (suc zero)))))))))))))))))))))))))))))))))))))))))))) = r
-by_rule C m e p r o (suc (suc (suc (suc (suc (suc (suc (suc (suc (suc (suc (suc (suc (suc (suc (suc (suc (suc (suc (suc (suc (suc (suc (suc (suc (suc (suc (suc (suc (suc (suc (suc (suc (suc (suc (suc (suc (suc (suc (suc (suc (suc (suc (suc (suc zero))))))))))))))))))))))))))))))))))))))))))))) = o 45 generic (λ x. omega arith) (λ x. omega arith) (λ x. omega arith)
-by_rule C m e p r o (suc (suc (suc (suc (suc (suc (suc (suc (suc (suc (suc (suc (suc (suc (suc (suc (suc (suc (suc (suc (suc (suc (suc (suc (suc (suc (suc (suc (suc (suc (suc (suc (suc (suc (suc (suc (suc (suc (suc (suc (suc (suc (suc (suc (suc (suc zero)))))))))))))))))))))))))))))))))))))))))))))) = o 46 generic (λ x. omega arith) (λ x. omega arith) (λ x. omega arith)
-by_rule C m e p r o (suc (suc (suc (suc (suc (suc (suc (suc (suc (suc (suc (suc (suc (suc (suc (suc (suc (suc (suc (suc (suc (suc (suc (suc (suc (suc (suc (suc (suc (suc (suc (suc (suc (suc (suc (suc (suc (suc (suc (suc (suc (suc (suc (suc (suc (suc (suc zero))))))))))))))))))))))))))))))))))))))))))))))) = o 47 generic (λ x. omega arith) (λ x. omega arith) (λ x. omega arith)
-by_rule C m e p r o (suc (suc (suc (suc (suc (suc (suc (suc (suc (suc (suc (suc (suc (suc (suc (suc (suc (suc (suc (suc (suc (suc (suc (suc (suc (suc (suc (suc (suc (suc (suc (suc (suc (suc (suc (suc (suc (suc (suc (suc (suc (suc (suc (suc (suc (suc (suc (suc zero)))))))))))))))))))))))))))))))))))))))))))))))) = o 48 generic (λ x. omega arith) (λ x. omega arith) (λ x. omega arith)
-by_rule C m e p r o (suc (suc (suc (suc (suc (suc (suc (suc (suc (suc (suc (suc (suc (suc (suc (suc (suc (suc (suc (suc (suc (suc (suc (suc (suc (suc (suc (suc (suc (suc (suc (suc (suc (suc (suc (suc (suc (suc (suc (suc (suc (suc (suc (suc (suc (suc (suc (suc (suc zero))))))))))))))))))))))))))))))))))))))))))))))))) = o 49 generic (λ x. omega arith) (λ x. omega arith) (λ x. omega arith)
-by_rule C m e p r o (suc (suc (suc (suc (suc (suc (suc (suc (suc (suc (suc (suc (suc (suc (suc (suc (suc (suc (suc (suc (suc (suc (suc (suc (suc (suc (suc (suc (suc (suc (suc (suc (suc (suc (suc (suc (suc (suc (suc (suc (suc (suc (suc (suc (suc (suc (suc (suc (suc (suc zero)))))))))))))))))))))))))))))))))))))))))))))))))) = o 50 generic (λ x. omega arith) (λ x. omega arith) (λ x. omega arith)
-by_rule C m e p r o (suc (suc (suc (suc (suc (suc (suc (suc (suc (suc (suc (suc (suc (suc (suc (suc (suc (suc (suc (suc (suc (suc (suc (suc (suc (suc (suc (suc (suc (suc (suc (suc (suc (suc (suc (suc (suc (suc (suc (suc (suc (suc (suc (suc (suc (suc (suc (suc (suc (suc (suc zero))))))))))))))))))))))))))))))))))))))))))))))))))) = o 51 generic (λ x. omega arith) (λ x. omega arith) (λ x. omega arith)
-by_rule C m e p r o (suc (suc (suc (suc (suc (suc (suc (suc (suc (suc (suc (suc (suc (suc (suc (suc (suc (suc (suc (suc (suc (suc (suc (suc (suc (suc (suc (suc (suc (suc (suc (suc (suc (suc (suc (suc (suc (suc (suc (suc (suc (suc (suc (suc (suc (suc (suc (suc (suc (suc (suc (suc zero)))))))))))))))))))))))))))))))))))))))))))))))))))) = o 52 refused (λ x. omega arith) (λ x. omega arith) (λ x. omega arith)
 by_rule C m e p r o (suc (suc (suc (suc (suc (suc (suc (suc (suc (suc (suc (suc (suc (suc (suc (suc (suc (suc (suc (suc (suc (suc (suc (suc (suc (suc (suc (suc (suc (suc (suc (suc (suc (suc (suc (suc (suc (suc (suc (suc (suc (suc (suc (suc (suc (suc (suc (suc (suc (suc (suc (suc (suc k))))))))))))))))))))))))))))))))))))))))))))))))))))) = o (suc (suc (suc (suc (suc (suc (suc (suc (suc (suc (suc (suc (suc (suc (suc (suc (suc (suc (suc (suc (suc (suc (suc (suc (suc (suc (suc (suc (suc (suc (suc (suc (suc (suc (suc (suc (suc (suc (suc (suc (suc (suc (suc (suc (suc (suc (suc (suc (suc (suc (suc (suc (suc k))))))))))))))))))))))))))))))))))))))))))))))))))))) refused (λ x. omega arith) (λ x. omega arith) (λ x. omega arith)
+by_rule C m e p r o k = o k _ (λ x. omega arith) (λ x. omega arith) (λ x. omega arith)
 
 member_number : (k : ℕ) → D.is_member (get_or rules k (plain refused)) ≡ eqb k 16
 unfolding D.is_member

@@ -1,12 +1,7 @@
 -- Instructions whose target comes later: set when it is known, Breaks and Continues resolved by their loop. Assumes nothing.
-use mathlib.Core.Path.{◌≡◌, refl, sym, ap, subst, ◌∙◌}
-use mathlib.Core.Bool.{Bool}
-use mathlib.Core.List.{List, [], ◌∷◌, ◌++◌, map, append_assoc}
-use Prim.Native.Nat.{ℕ, suc, ◌+◌, ◌*◌, ◌-◌, ◌≤◌, ◌<◌, ◌%◌, min}
-use native.Mathlib.Omega.{arith}
-use lib.ListN.{length, get_or, set, length-append, length-set}
-use lib.Seq.{sets, get_or-set_same, get_or-set_other}
-use borrow.Author.Tests.{le-leb, eq-eqb, ne_eqb}
+use Rattle.std.proofs.Common.{min, le-leb, rules, ◌≡◌, refl, sym, ap, subst, ◌∙◌, Bool, List, [], ◌∷◌, ◌++◌, map, append_assoc, ℕ, suc, ◌+◌, ◌*◌, ◌-◌, ◌≤◌, ◌<◌, ◌%◌, arith, length, get_or, set, length-append, get_or-set_same, eq-eqb, ne_eqb}
+use lib.ListN.{length-map}
+use lib.Seq.{sets}
 use Rattle.program.specs.Instruction as I
 use Rattle.program.specs.Instruction.{Instruction}
 use Rattle.program.specs.Program.{Counts}
@@ -21,10 +16,10 @@ use Rattle.code.specs.Segments as G
 use Rattle.workspace.specs.Layout.{OPEN}
 use Rattle.builder.specs.Segments as T
 use Rattle.builder.specs.Steps as W
-use Rattle.builder.specs.Steps.{Held}
+use Rattle.lowering.specs.Held.{Held}
 use Rattle.lowering.specs.Parts as L
 use Rattle.lowering.specs.Parts.{Step, front}
-use Rattle.representation.proofs.Rows.{Rows, Apart, rows_agree, rows_append, rows_left, rows_right, sets_apart, sets_stored}
+use Rattle.representation.proofs.Rows.{Rows, Apart, rows_agree, rows_append, rows_left, rows_right}
 use Rattle.representation.proofs.Represents.{ItemAt, front_of, back_of, OpenCall, Abs, Fits, Content, Moves}
 use Rattle.representation.proofs.Keeps.{item_local}
 use Rattle.representation.proofs.OpenCode.{open_changed, add_item, back_add, emits, flushed_code, flush_a, back_flush, flushes}
@@ -34,53 +29,11 @@ use Rattle.representation.proofs.Laws.{both}
 pub opcode_small : (i : Instruction) → (word_of i).opcode ≤ 48
 unfolding word_of
 opcode_small (I.plain (I.const c)) = omega arith
-opcode_small (I.plain (I.hash c)) = omega arith
-opcode_small (I.plain (I.resource c)) = omega arith
-opcode_small (I.plain (I.this c)) = omega arith
-opcode_small (I.plain (I.negate c)) = omega arith
-opcode_small (I.plain (I.not c)) = omega arith
-opcode_small (I.plain (I.and_last c)) = omega arith
-opcode_small (I.plain (I.or_last c)) = omega arith
-opcode_small (I.plain (I.post c)) = omega arith
-opcode_small (I.plain (I.pointer_leave c)) = omega arith
-opcode_small (I.plain (I.store_var c d)) = omega arith
-opcode_small (I.plain (I.store_temp c d)) = omega arith
-opcode_small (I.plain (I.store_member c d)) = omega arith
-opcode_small (I.plain (I.cmp_const c d e)) = omega arith
-opcode_small (I.plain (I.eq_const c d e)) = omega arith
-opcode_small (I.plain (I.eq_hash c d e)) = omega arith
-opcode_small (I.plain I.add_acc) = omega arith
 opcode_small (I.taking (I.add_last c)) = omega arith
-opcode_small (I.taking (I.mul c)) = omega arith
-opcode_small (I.taking (I.div c)) = omega arith
-opcode_small (I.taking (I.cmp c d)) = omega arith
-opcode_small (I.taking (I.eq c d)) = omega arith
-opcode_small (I.taking (I.host_math c d e)) = omega arith
 opcode_small (I.reading (I.load_var c d)) = omega arith
-opcode_small (I.reading (I.load_temp c d)) = omega arith
-opcode_small (I.reading (I.load_ctx c d)) = omega arith
-opcode_small (I.reading (I.array_element c d)) = omega arith
-opcode_small (I.reading (I.member c d)) = omega arith
 opcode_small (I.guard (I.div_guard c) t) = omega arith
-opcode_small (I.guard (I.and_step c) t) = omega arith
-opcode_small (I.guard (I.or_step c) t) = omega arith
-opcode_small (I.guard (I.pointer_enter c) t) = omega arith
-opcode_small (I.guard I.jump_if_falsy t) = omega arith
-opcode_small I.push = omega arith
-opcode_small I.loop_end = omega arith
-opcode_small I.halt = omega arith
-opcode_small I.end = omega arith
-opcode_small (I.push_const c) = omega arith
-opcode_small (I.jump c) = omega arith
-opcode_small (I.handler_push c) = omega arith
-opcode_small (I.handler_pop c) = omega arith
-opcode_small (I.loop_begin c) = omega arith
-opcode_small (I.loop_check c) = omega arith
-opcode_small (I.each_begin c) = omega arith
-opcode_small (I.return c) = omega arith
 opcode_small (I.each_next (I.each_next_var c) t) = omega arith
-opcode_small (I.each_next (I.each_next_temp c) t) = omega arith
-opcode_small (I.call c d) = omega arith
+opcode_small i = omega arith
 
 pub front_small : (i : Instruction) → front_of (instr i) < 0x3100_0000
 front_small i = let h = opcode_small i in omega arith
@@ -90,28 +43,21 @@ mk o k w os s = record { outer = o; code = k; wait = w; open_calls = os; state =
 
 -- where the next instruction goes
 pub placed : {tree : List ℕ} {c : Counts} {h : Held} {A : Abs} → Content tree c h A → L.place h.0 ≡ past A.code 0
-placed {A = A} k = let t = k.tables in omega (arith, t.open_base, t.open_code.count, length-append A.outer A.code, past_length A.code)
+placed {A = A} k = let t = k.tables in omega (arith, t.code_held.open_base, t.code_held.open_code.count, length-append A.outer A.code, past_length A.code)
 
 -- ---- a target set
 
-land_is : (at : ℕ) (h : Held) → h.0.base + at + 1 ≤ 2048 → L.place_target at h ≡ (h.0, set h.1 ((h.0.base + at) * 2 + 1) (L.place h.0))
-unfolding L.place_target T.targeted G.targeted
-land_is at h l =
-    let e : min (h.0.base + at) 65535 ≡ h.0.base + at = omega arith in
-    rw (e, le-leb (h.0.base + at + 1) 2048 l)
-
 set_apart : (ws : List ℕ) (i v : ℕ) → Apart ws (set ws i v) i (i + 1)
-set_apart ws i v = record { same_length = length-set ws i v; below = λ j l. get_or-set_other ws i j v 0 (λ e. omega arith); above = λ j l. get_or-set_other ws i j v 0 (λ e. omega arith) }
+set_apart ws i v = search rules
 
 module _ {tree : List ℕ} {c : Counts} where
   pub land_at : (o k l : List Item) (y x : Item) (w : Bool) (os : List OpenCall) (s : State) (h : Held) → front_of x ≡ front_of y → back_of x ≡ past (k ++ (y ∷ l)) 0
       → Fits (mk o (k ++ (y ∷ l)) w os s) → Content tree c h (mk o (k ++ (y ∷ l)) w os s) → Content tree c (L.place_target (past k 0) h) (mk o (k ++ (x ∷ l)) w os s)
+  unfolding L.place_target T.targeted G.targeted
   land_at o k l y x w os s h ef eb f r =
       let t = r.tables in
       let A = mk o (k ++ (y ∷ l)) w os s in
-      let ob = t.open_base in
-      let n = t.open_code.count in
-      let fc = f.code in
+      let ob = t.code_held.open_base in
       let l1 = length-append o (k ++ (y ∷ l)) in
       let l2 = length-append k (y ∷ l) in
       let l3 = length-append o k in
@@ -128,14 +74,15 @@ module _ {tree : List ℕ} {c : Counts} where
       let p = OPEN + weigh 2 (o ++ k) in
       let ei : p + 1 ≡ i = omega arith in
       let small : i < length h.1 = omega arith in
-      let rows0 : Rows 2 (ItemAt h.1) OPEN ((o ++ k) ++ (y ∷ l)) = subst (λ (q : List Item). Rows 2 (ItemAt h.1) OPEN q) (sym (append_assoc o k (y ∷ l))) t.open_code.rows in
+      let rows0 : Rows 2 (ItemAt h.1) OPEN ((o ++ k) ++ (y ∷ l)) = subst (λ (q : List Item). Rows 2 (ItemAt h.1) OPEN q) (sym (append_assoc o k (y ∷ l))) t.code_held.open_code.rows in
       let left = rows_left 2 (ItemAt h.1) OPEN (o ++ k) (y ∷ l) rows0 in
       let right = rows_right 2 (ItemAt h.1) OPEN (o ++ k) (y ∷ l) rows0 in
       let left' : Rows 2 (ItemAt vs) OPEN (o ++ k) = rows_agree 2 ItemAt item_local h.1 vs OPEN (o ++ k) (λ j u z. a.below j (omega arith)) left in
       let new : ItemAt vs p x = (a.below p (omega arith) ∙ right.0.0 ∙ sym ef, ap (λ (z : ℕ). z % 4294967296) (ap (λ (j : ℕ). get_or vs j 0) ei ∙ get_or-set_same h.1 i v 0 small ∙ pv)) in
       let rest : Rows 2 (ItemAt vs) (p + 2) l = rows_agree 2 ItemAt item_local h.1 vs (p + 2) l (λ j u z. a.above j (omega arith)) right.1 in
       let rows = subst (λ (q : List Item). Rows 2 (ItemAt vs) OPEN q) (append_assoc o k (x ∷ l)) (rows_append 2 (ItemAt vs) OPEN (o ++ k) (x ∷ l) left' (new, rest)) in
-      subst (λ (z : Held). Content tree c z (mk o (k ++ (x ∷ l)) w os s)) (sym (land_is (past k 0) h (omega arith)))
+      let m : min (h.0.base + past k 0) 65535 ≡ h.0.base + past k 0 = omega arith in
+      rw (m, le-leb (h.0.base + past k 0 + 1) 2048 (omega arith))
       (record {
         enough = omega (arith, a.same_length, en);
         beside = r.beside;
@@ -145,16 +92,7 @@ module _ {tree : List ℕ} {c : Counts} where
 -- ---- Breaks and Continues resolved
 
 stored : (ws : List ℕ) (at p t u : ℕ) → p ≡ at * 2 → p + 2 ≤ length ws → ((get_or (sets ws (at * 2) (t ∷ u ∷ [])) p 0 ≡ t) × (get_or (sets ws (at * 2) (t ∷ u ∷ [])) (p + 1) 0 % 4294967296 ≡ u % 4294967296)) × Apart ws (sets ws (at * 2) (t ∷ u ∷ [])) p (p + 2)
-stored ws at p t u e l =
-    let a = sets_apart ws (at * 2) (t ∷ u ∷ []) in
-    let e0 : p ≡ at * 2 + 0 = omega arith in
-    let e1 : p + 1 ≡ at * 2 + 1 = omega arith in (
-      (
-        ap (λ (j : ℕ). get_or (sets ws (at * 2) (t ∷ u ∷ [])) j 0) e0 ∙ sets_stored ws (at * 2) (t ∷ u ∷ []) 0 (omega arith) (omega arith),
-        ap (λ (z : ℕ). z % 4294967296) (ap (λ (j : ℕ). get_or (sets ws (at * 2) (t ∷ u ∷ [])) j 0) e1 ∙ sets_stored ws (at * 2) (t ∷ u ∷ []) 1 (omega arith) (omega arith)),
-      ),
-      record { same_length = a.same_length; below = λ j q. a.below j (omega arith); above = λ j q. a.above j (omega arith) },
-    )
+stored ws at p t u e l = search rules
 
 module _ (check cleanup : ℕ) where
   aim_one : (ws : List ℕ) (at p : ℕ) (x : Item) → p ≡ at * 2 → p + 2 ≤ length ws → ItemAt ws p x → ItemAt (G.break_resolved ws at check cleanup) p (aim check cleanup x) × Apart ws (G.break_resolved ws at check cleanup) p (p + 2)
@@ -166,8 +104,7 @@ module _ (check cleanup : ℕ) where
       (h, record { same_length = refl; below = λ j u. refl; above = λ j u. refl })
   aim_one ws at p to_cleanup e l h =
       let g : get_or ws (at * 2) 0 ≡ G.BREAK = ap (λ (j : ℕ). get_or ws j 0) (sym e) ∙ h.0 in
-      rw (eq-eqb (get_or ws (at * 2) 0) G.BREAK g)
-      (stored ws at p G.JUMP cleanup e l)
+      search rules
   aim_one ws at p to_check e l h =
       let g : get_or ws (at * 2) 0 ≡ G.CONTINUE = ap (λ (j : ℕ). get_or ws j 0) (sym e) ∙ h.0 in
       rw (ne_eqb (get_or ws (at * 2) 0) G.BREAK (λ q. omega (arith, g, q)), eq-eqb (get_or ws (at * 2) 0) G.CONTINUE g)
@@ -181,51 +118,33 @@ module _ (check cleanup : ℕ) where
       let one = aim_one ws at (at * 2) x refl (omega arith) h.0 in
       let vs = G.break_resolved ws at check cleanup in
       let a = one.1 in
-      let al = a.same_length in
       let e : at * 2 + 2 ≡ suc at * 2 = omega arith in
-      let w = weigh_length 2 l in
       let tail : Rows 2 (ItemAt vs) (suc at * 2) l = subst (λ (p : ℕ). Rows 2 (ItemAt vs) p l) e (rows_agree 2 ItemAt item_local ws vs (at * 2 + 2) l (λ j u z. a.above j u) h.1) in
       let rec = aim_range l vs (suc at) (omega arith) tail in
-      let us = G.range_resolved vs (suc at) (length l) check cleanup in
-      let b = rec.1 in
-      let first : ItemAt us (at * 2) (aim check cleanup x) = item_local vs us (at * 2) (aim check cleanup x) (λ j u z. b.below j (omega arith)) one.0 in (
-        (first, subst (λ (p : ℕ). Rows 2 (ItemAt us) p (map (aim check cleanup) l)) (sym e) rec.0),
-        record { same_length = b.same_length ∙ al; below = λ j u. b.below j (omega arith) ∙ a.below j u; above = λ j u. b.above j (omega arith) ∙ a.above j (omega arith) },
-      )
-
-pub length_aimed : (check cleanup : ℕ) (l : List Item) → length (map (aim check cleanup) l) ≡ length l
-length_aimed check cleanup [] = refl
-length_aimed check cleanup (x ∷ l) = ap suc (length_aimed check cleanup l)
-
-aimed_is : (at check cleanup n : ℕ) (h : Held) → h.0.base + at ≤ 65535 → h.0.top - (h.0.base + at) ≡ n → T.breaks_resolved h.0 at check cleanup h.1 ≡ G.range_resolved h.1 (h.0.base + at) n check cleanup
-unfolding T.breaks_resolved
-aimed_is at check cleanup n h l e =
-    let m : min (h.0.base + at) 65535 ≡ h.0.base + at = omega arith in
-    rw (m, e)
+      search rules
 
 module _ {tree : List ℕ} {c : Counts} where
   -- those of the code behind k
   pub aim_at : (o k l : List Item) (w : Bool) (os : List OpenCall) (s : State) (h : Held) (at check cleanup : ℕ) → at ≡ past k 0
       → Fits (mk o (k ++ l) w os s) → Content tree c h (mk o (k ++ l) w os s) → Content tree c (h.0, T.breaks_resolved h.0 at check cleanup h.1) (mk o (k ++ map (aim check cleanup) l) w os s)
+  unfolding T.breaks_resolved
   aim_at o k l w os s h at check cleanup ea f r =
       let t = r.tables in
       let A = mk o (k ++ l) w os s in
-      let ob = t.open_base in
-      let n = t.open_code.count in
-      let fc = f.code in
+      let ob = t.code_held.open_base in
       let l1 = length-append o (k ++ l) in
       let l2 = length-append k l in
       let l3 = length-append o k in
       let m = map (aim check cleanup) l in
       let l4 = length-append o (k ++ m) in
       let l5 = length-append k m in
-      let l6 = length_aimed check cleanup l in
+      let l6 = length-map l (aim check cleanup) in
       let pk = past_length k in
       let en = r.enough in
       let i = h.0.base + at in
       let wo = weigh_length 2 (o ++ k) in
       let ei : OPEN + weigh 2 (o ++ k) ≡ i * 2 = omega arith in
-      let rows0 : Rows 2 (ItemAt h.1) OPEN ((o ++ k) ++ l) = subst (λ (q : List Item). Rows 2 (ItemAt h.1) OPEN q) (sym (append_assoc o k l)) t.open_code.rows in
+      let rows0 : Rows 2 (ItemAt h.1) OPEN ((o ++ k) ++ l) = subst (λ (q : List Item). Rows 2 (ItemAt h.1) OPEN q) (sym (append_assoc o k l)) t.code_held.open_code.rows in
       let left = rows_left 2 (ItemAt h.1) OPEN (o ++ k) l rows0 in
       let right : Rows 2 (ItemAt h.1) (i * 2) l = subst (λ (p : ℕ). Rows 2 (ItemAt h.1) p l) ei (rows_right 2 (ItemAt h.1) OPEN (o ++ k) l rows0) in
       let g = aim_range check cleanup l h.1 i (omega arith) right in
@@ -233,7 +152,9 @@ module _ {tree : List ℕ} {c : Counts} where
       let a = g.1 in
       let left' : Rows 2 (ItemAt vs) OPEN (o ++ k) = rows_agree 2 ItemAt item_local h.1 vs OPEN (o ++ k) (λ j u z. a.below j (omega arith)) left in
       let rows = subst (λ (q : List Item). Rows 2 (ItemAt vs) OPEN q) (append_assoc o k m) (rows_append 2 (ItemAt vs) OPEN (o ++ k) m left' (subst (λ (p : ℕ). Rows 2 (ItemAt vs) p m) (sym ei) g.0)) in
-      subst (λ (z : List ℕ). Content tree c (h.0, z) (mk o (k ++ m) w os s)) (sym (aimed_is at check cleanup (length l) h (omega arith) (omega arith)))
+      let e0 : min (h.0.base + at) 65535 ≡ h.0.base + at = omega arith in
+      let e1 : h.0.top - (h.0.base + at) ≡ length l = omega arith in
+      rw (e0, e1)
       (record {
         enough = omega (arith, a.same_length, en);
         beside = r.beside;
@@ -245,6 +166,9 @@ module _ {tree : List ℕ} {c : Counts} where
 -- i makes the instruction of these fields for every target
 pub record Leads (i : ℕ → Instruction) (op sub b : ℕ) : Type 0 where
   pub fields : (t : ℕ) → word_of (i t) ≡ word op sub t b
+
+pub leads : (i : ℕ → Instruction) (op sub b : ℕ) → ((t : ℕ) → word_of (i t) ≡ word op sub t b) → Leads i op sub b
+leads i op sub b e = record { fields = e }
 
 pub lead_front : {i : ℕ → Instruction} {op sub b : ℕ} → Leads i op sub b → (t : ℕ) → front_of (instr (i t)) ≡ front op sub b
 lead_front e t = ap (λ (w : Word). front w.opcode w.sub w.b) (e.fields t)

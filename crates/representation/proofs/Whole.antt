@@ -1,13 +1,10 @@
 -- What the lowering leaves in the workspace holds the program of the tree: the card can be written from it. Assumes nothing.
+use Rattle.std.proofs.Common.{rules, ◌≡◌, refl, sym, ap, subst, ◌∙◌, Bool, true, false, cond, List, [], ◌∷◌, ◌++◌, map, ℕ, zero, suc, ◌+◌, ◌*◌, ◌≤◌, ◌<◌, arith, length, get_or, length-append}
 use Rattle.answers.specs.Refusals.{number_of_first}
-use mathlib.Core.Path.{◌≡◌, refl, sym, ap, subst, ◌∙◌}
-use mathlib.Core.Bool.{Bool, true, false, cond, true≢false}
-use mathlib.Core.List.{List, [], ◌∷◌, ◌++◌, map}
 use mathlib.Core.Option.{Option, some, none}
-use Prim.Native.Nat.{ℕ, zero, suc, ◌+◌, ◌*◌, ◌≤◌, ◌<◌}
-use native.Mathlib.Omega.{arith}
 use lib.Bits.{bit_and}
-use lib.ListN.{length, get_or, length-append, length-map}
+use Rattle.std.proofs.lemmas.List.{map-append, get_or-map}
+use lib.ListN.{length-map}
 use Rattle.wire.specs.Bytes.{Bytes}
 use Rattle.numeric.specs.Post.{identity}
 use Rattle.ast.specs.Node.{parse}
@@ -15,7 +12,7 @@ use Rattle.ast.specs.Questions.{questions}
 use Rattle.program.specs.Instruction as I
 use Rattle.program.specs.Instruction.{Instruction, halt}
 use Rattle.program.specs.Program.{MemberEntry, QueryCall}
-use Rattle.program.specs.Image.{word_of, word}
+use Rattle.program.specs.Image.{word_of}
 use Rattle.program.specs.Targets.{shift_of}
 use Rattle.program.specs.Kinds.{in_float_loop}
 use Rattle.program.specs.Fits.{Every, FitInstruction, FitProgram}
@@ -39,12 +36,12 @@ use Rattle.lowering.specs.Parts as L
 use Rattle.lowering.specs.Rules as R
 use Rattle.representation.specs.Sections.{in_loop, sections_of}
 use Rattle.representation.proofs.Rows.{Rows}
-use Rattle.representation.proofs.Represents.{ItemAt, InstructionAt, WordAt, MemberAt, places, first_place, Filled, CallsFrom, filled, Abs, Fits, Content, Does}
+use Rattle.representation.proofs.Represents.{ItemAt, InstructionAt, WordAt, MemberAt, places, first_place, Filled, CallsFrom, filled, Abs, Fits, Table, Counter, Content, Does}
 use Rattle.representation.proofs.Pools.{rows_at}
 use Rattle.representation.proofs.Laws.{thens}
-use Rattle.representation.proofs.Targets.{mk, aim_at, length_aimed, opcode_small}
+use Rattle.representation.proofs.Targets.{mk, aim_at}
 use Rattle.representation.proofs.Branches.{instr_does}
-use Rattle.representation.proofs.Segments.{relocate_front, relocate_back, instruction_of, aim_is, settle_is}
+use Rattle.representation.proofs.Segments.{past_is, relocate_front, relocate_back, instruction_of, aim_is, settle_is}
 use Rattle.representation.proofs.Sound.{sound, not_larger}
 use Rattle.representation.proofs.Nodes.{child}
 
@@ -55,69 +52,25 @@ further b n t = let h = shift (b + n) t in let i = shift n t in let j = shift b 
 
 relocate_twice : (b n : ℕ) (i : Instruction) → relocate (b + n) i ≡ relocate b (relocate n i)
 unfolding relocate
-relocate_twice b n (I.plain (I.const c)) = refl
-relocate_twice b n (I.plain (I.hash c)) = refl
-relocate_twice b n (I.plain (I.resource c)) = refl
-relocate_twice b n (I.plain (I.this c)) = refl
-relocate_twice b n (I.plain (I.negate c)) = refl
-relocate_twice b n (I.plain (I.not c)) = refl
-relocate_twice b n (I.plain (I.and_last c)) = refl
-relocate_twice b n (I.plain (I.or_last c)) = refl
-relocate_twice b n (I.plain (I.post c)) = refl
-relocate_twice b n (I.plain (I.pointer_leave c)) = refl
-relocate_twice b n (I.plain (I.store_var c d)) = refl
-relocate_twice b n (I.plain (I.store_temp c d)) = refl
-relocate_twice b n (I.plain (I.store_member c d)) = refl
-relocate_twice b n (I.plain (I.cmp_const c d e)) = refl
-relocate_twice b n (I.plain (I.eq_const c d e)) = refl
-relocate_twice b n (I.plain (I.eq_hash c d e)) = refl
-relocate_twice b n (I.plain I.add_acc) = refl
-relocate_twice b n (I.taking (I.add_last c)) = refl
-relocate_twice b n (I.taking (I.mul c)) = refl
-relocate_twice b n (I.taking (I.div c)) = refl
-relocate_twice b n (I.taking (I.cmp c d)) = refl
-relocate_twice b n (I.taking (I.eq c d)) = refl
-relocate_twice b n (I.taking (I.host_math c d e)) = refl
-relocate_twice b n (I.reading (I.load_var c d)) = refl
-relocate_twice b n (I.reading (I.load_temp c d)) = refl
-relocate_twice b n (I.reading (I.load_ctx c d)) = refl
-relocate_twice b n (I.reading (I.array_element c d)) = refl
-relocate_twice b n (I.reading (I.member c d)) = refl
-relocate_twice b n (I.guard (I.div_guard c) t) = ap (I.guard (I.div_guard c)) (further b n t)
-relocate_twice b n (I.guard (I.and_step c) t) = ap (I.guard (I.and_step c)) (further b n t)
-relocate_twice b n (I.guard (I.or_step c) t) = ap (I.guard (I.or_step c)) (further b n t)
-relocate_twice b n (I.guard (I.pointer_enter c) t) = ap (I.guard (I.pointer_enter c)) (further b n t)
-relocate_twice b n (I.guard I.jump_if_falsy t) = ap (I.guard I.jump_if_falsy) (further b n t)
-relocate_twice b n (I.push) = refl
-relocate_twice b n (I.loop_end) = refl
-relocate_twice b n (I.halt) = refl
-relocate_twice b n (I.end) = refl
-relocate_twice b n (I.push_const c) = refl
-relocate_twice b n (I.jump t) = ap (I.jump) (further b n t)
-relocate_twice b n (I.handler_push t) = ap (I.handler_push) (further b n t)
-relocate_twice b n (I.handler_pop t) = ap (I.handler_pop) (further b n t)
-relocate_twice b n (I.loop_begin t) = ap (I.loop_begin) (further b n t)
-relocate_twice b n (I.loop_check t) = ap (I.loop_check) (further b n t)
-relocate_twice b n (I.each_begin t) = ap (I.each_begin) (further b n t)
-relocate_twice b n (I.return c) = refl
-relocate_twice b n (I.each_next (I.each_next_var c) t) = ap (I.each_next (I.each_next_var c)) (further b n t)
-relocate_twice b n (I.each_next (I.each_next_temp c) t) = ap (I.each_next (I.each_next_temp c)) (further b n t)
-relocate_twice b n (I.call c d) = refl
+relocate_twice b n (I.guard g t) = ap (I.guard g) (further b n t)
+relocate_twice b n (I.each_next i t) = ap (I.each_next i) (further b n t)
+relocate_twice b n (I.jump t) = ap I.jump (further b n t)
+relocate_twice b n (I.handler_push t) = ap I.handler_push (further b n t)
+relocate_twice b n (I.handler_pop t) = ap I.handler_pop (further b n t)
+relocate_twice b n (I.loop_begin t) = ap I.loop_begin (further b n t)
+relocate_twice b n (I.loop_check t) = ap I.loop_check (further b n t)
+relocate_twice b n (I.each_begin t) = ap I.each_begin (further b n t)
+relocate_twice b n i = refl
 
 settle_twice : (b n : ℕ) (x : Item) → settle (b + n) 0 0 x ≡ relocate b (settle n 0 0 x)
 settle_twice b n x = settle_is (b + n) x ∙ relocate_twice b n (instruction_of x) ∙ ap (relocate b) (sym (settle_is n x))
 
 past_plus : (c : List Item) (b n : ℕ) → past c (b + n) ≡ b + past c n
-past_plus [] b n = refl
-past_plus (x ∷ c) b n = let e : suc (b + n) ≡ b + suc n = omega arith in ap (past c) e ∙ past_plus c b (suc n)
+past_plus c b n = let h = past_is c (b + n) in let i = past_is c n in omega arith
 
 settle_map : (b n : ℕ) (c : List Item) → map (settle (b + n) 0 0) c ≡ map (relocate b) (map (settle n 0 0) c)
 settle_map b n [] = refl
 settle_map b n (x ∷ c) = λ i. settle_twice b n x i ∷ settle_map b n c i
-
-map_both : {A B : Type 0} (f : A → B) (xs ys : List A) → map f (xs ++ ys) ≡ map f xs ++ map f ys
-map_both f [] ys = refl
-map_both f (x ∷ xs) ys = ap (λ l. f x ∷ l) (map_both f xs ys)
 
 place_shift : (b n : ℕ) (cs : List (List Item)) → place_segments cs (b + n) ≡ map (relocate b) (place_segments cs n)
 unfolding place_segments
@@ -126,17 +79,12 @@ place_shift b n (c ∷ cs) =
     ap (λ (l : List Instruction). l ++ place_segments cs (past c (b + n))) (settle_map b n c)
     ∙ ap (λ (m : ℕ). map (relocate b) (map (settle n 0 0) c) ++ place_segments cs m) (past_plus c b n)
     ∙ ap (λ (l : List Instruction). map (relocate b) (map (settle n 0 0) c) ++ l) (place_shift b (past c n) cs)
-    ∙ sym (map_both (relocate b) (map (settle n 0 0) c) (place_segments cs (past c n)))
+    ∙ sym (map-append (relocate b) (map (settle n 0 0) c) (place_segments cs (past c n)))
 
 -- ---- entries by number
 
 each_rows : {A : Type 0} (w : ℕ) (Q : ℕ → A → Type 0) (o : ℕ) (xs : List A) (d : A) → Rows w Q o xs → Each d (λ k x. Q (o + w * k) x) xs
 each_rows w Q o xs d h k l = rows_at w Q o xs k d l h
-
-get_d_mapped : {A B : Type 0} (f : A → B) (xs : List A) (k : ℕ) (d : A) (e : B) → k < length xs → get_or (map f xs) k e ≡ f (get_or xs k d)
-get_d_mapped f [] k d e l = absurd (omega arith)
-get_d_mapped f (x ∷ xs) zero d e l = refl
-get_d_mapped f (x ∷ xs) (suc k) d e l = get_d_mapped f xs k d e (omega arith)
 
 every_at : {A : Type 0} (Q : A → Type 0) (xs : List A) (k : ℕ) (d : A) → k < length xs → Every Q xs → Q (get_or xs k d)
 every_at Q [] k d l h = absurd (omega arith)
@@ -164,7 +112,6 @@ moved_is ws b k i h f =
     let fs = f.sub in
     let fb = f.b in
     let fa = f.a in
-    let oi = opcode_small i in
     let eo : (word_of j).opcode ≡ (word_of i).opcode = omega (arith, e) in
     let es : shift_of (word_of j).opcode b ≡ shift_of (word_of i).opcode b = ap (λ (o : ℕ). shift_of o b) eo in
     record { first = omega (arith, h0, e, fs, fb); second = omega (arith, h1, m, fa, es) }
@@ -175,17 +122,17 @@ item_is ws k x h = subst (λ (y : Item). ItemAt ws k y) (aim_is x) h
 main_is : (ws : List ℕ) (xs : List Item) → Rows 2 (ItemAt ws) OPEN (map (aim 0 0) xs) → Every FitInstruction (map (settle 0 0 0) xs) → Each halt (λ k i. InstructionIs ws 0 (OPEN + 2 * k) i) (map (settle 0 0 0) xs)
 main_is ws xs h f k l =
     let n = length-map xs (settle 0 0 0) in
-    let m = length_aimed 0 0 xs in
+    let m = length-map xs (aim 0 0) in
     let x = get_or xs k S.to_cleanup in
-    let e : get_or (map (settle 0 0 0) xs) k halt ≡ relocate 0 (instruction_of x) = get_d_mapped (settle 0 0 0) xs k S.to_cleanup halt (omega arith) ∙ settle_is 0 x in
-    let g : ItemAt ws (OPEN + 2 * k) (aim 0 0 x) = subst (λ (y : Item). ItemAt ws (OPEN + 2 * k) y) (get_d_mapped (aim 0 0) xs k S.to_cleanup S.to_cleanup (omega arith)) (each_rows 2 (ItemAt ws) OPEN (map (aim 0 0) xs) S.to_cleanup h k (omega arith)) in
+    let e : get_or (map (settle 0 0 0) xs) k halt ≡ relocate 0 (instruction_of x) = get_or-map (settle 0 0 0) xs k S.to_cleanup halt (omega arith) ∙ settle_is 0 x in
+    let g : ItemAt ws (OPEN + 2 * k) (aim 0 0 x) = subst (λ (y : Item). ItemAt ws (OPEN + 2 * k) y) (get_or-map (aim 0 0) xs k S.to_cleanup S.to_cleanup (omega arith)) (each_rows 2 (ItemAt ws) OPEN (map (aim 0 0) xs) S.to_cleanup h k (omega arith)) in
     let fit = subst (λ (i : Instruction). FitInstruction i) e (every_at FitInstruction (map (settle 0 0 0) xs) k halt l f) in
     subst (λ (i : Instruction). InstructionIs ws 0 (OPEN + 2 * k) i) (sym e) (moved_is ws 0 (OPEN + 2 * k) (instruction_of x) (item_is ws (OPEN + 2 * k) x g) fit)
 
 finished_is : (ws : List ℕ) (b : ℕ) (xs : List Instruction) → Rows 2 (InstructionAt ws) FINISHED xs → Every FitInstruction (map (relocate b) xs) → Each halt (λ k i. InstructionIs ws b (FINISHED + 2 * k) i) (map (relocate b) xs)
 finished_is ws b xs h f k l =
     let n = length-map xs (relocate b) in
-    let e = get_d_mapped (relocate b) xs k halt halt (omega arith) in
+    let e = get_or-map (relocate b) xs k halt halt (omega arith) in
     subst (λ (i : Instruction). InstructionIs ws b (FINISHED + 2 * k) i) (sym e) (moved_is ws b (FINISHED + 2 * k) (get_or xs k halt) (each_rows 2 (InstructionAt ws) FINISHED xs halt h k (omega arith)) (subst (λ (i : Instruction). FitInstruction i) e (every_at FitInstruction (map (relocate b) xs) k halt l f)))
 
 -- ---- calls: with none open, each has its starts
@@ -199,7 +146,6 @@ calls_sum : (ws : List ℕ) (hi p lo : ℕ) (is : List CallInfo) → CallsFrom w
 calls_sum ws hi p lo [] h = let l = h in omega arith
 calls_sum ws hi p lo (i ∷ is) h =
     let r = calls_sum ws hi (p + 4) (first_place ws p + places ws p) is h.4 in
-    let l = h.3 in
     let f = filled_one ws p i.offsets h.2 in
     omega arith
 
@@ -219,7 +165,6 @@ calls_all : (ws : List ℕ) (hi p lo : ℕ) (is : List CallInfo) → hi ≤ lo +
 calls_all ws hi p lo [] g h = tt
 calls_all ws hi p lo (i ∷ is) g h =
     let r = calls_sum ws hi (p + 4) (first_place ws p + places ws p) is h.4 in
-    let l = h.3 in
     let f = filled_one ws p i.offsets h.2 in
     let e : places ws p ≡ length (offsets_of i.offsets) = omega arith in
     (record { index_is = h.0; impl_is = h.1; count_is = e; starts_are = starts_of ws p i.offsets e h.2 }, calls_all ws hi (p + 4) (first_place ws p + places ws p) is (omega arith) h.4)
@@ -233,7 +178,7 @@ call_placed ws b p i h = record {
   starts = λ k l.
       let o = offsets_of i.offsets in
       let n = length-map o (b ⊕◌) in
-      let e = get_d_mapped (b ⊕◌) o k 0 0 (omega arith) in
+      let e = get_or-map (b ⊕◌) o k 0 0 (omega arith) in
       let v = each_rows 1 (WordAt ws) (ARGUMENTS + first_place ws p) o 0 h.starts_are k (omega arith) in
       let q : ARGUMENTS + first_place ws p + 1 * k ≡ ARGUMENTS + first_place ws p + k = omega arith in
       let v' = ap (λ (j : ℕ). get_or ws j 0) (sym q) ∙ v in
@@ -245,7 +190,7 @@ calls_placed : (ws : List ℕ) (b : ℕ) (is : List CallInfo) → Rows 4 (CallAt
 calls_placed ws b is h k l =
     let n = length-map is (place_call b) in
     let d : CallInfo = record { index = 0; impl = 0; offsets = none } in
-    subst (λ (q : QueryCall). CallIs ws b (CALLS + 4 * k) q) (sym (get_d_mapped (place_call b) is k d (record { index = 0; impl = 0; starts = [] }) (omega arith))) (call_placed ws b (CALLS + 4 * k) (get_or is k d) (each_rows 4 (CallAt ws) CALLS is d h k (omega arith)))
+    subst (λ (q : QueryCall). CallIs ws b (CALLS + 4 * k) q) (sym (get_or-map (place_call b) is k d (record { index = 0; impl = 0; starts = [] }) (omega arith))) (call_placed ws b (CALLS + 4 * k) (get_or is k d) (each_rows 4 (CallAt ws) CALLS is d h k (omega arith)))
 
 -- ---- members
 
@@ -253,45 +198,42 @@ members_held : {tree : List ℕ} (ws : List ℕ) (xs : List MemberRead) → Rows
 members_held {tree} ws xs h k l =
     let n = length-map xs member_entry in
     let d : MemberRead = record { own = record { hash = 0; text = [] }; last = record { hash = 0; text = [] } } in
-    subst (λ (m : MemberEntry). MemberIs tree ws (MEMBERS + 6 * k) m) (sym (get_d_mapped member_entry xs k d (record { hash = 0; text = []; report = [] }) (omega arith))) (each_rows 6 (MemberAt tree ws) MEMBERS xs d h k (omega arith)).0
+    subst (λ (m : MemberEntry). MemberIs tree ws (MEMBERS + 6 * k) m) (sym (get_or-map member_entry xs k d (record { hash = 0; text = []; report = [] }) (omega arith))) (each_rows 6 (MemberAt tree ws) MEMBERS xs d h k (omega arith)).0
 
 -- ---- the start and the end
 
-no_segments : place_segments [] 0 ≡ []
-unfolding place_segments
-no_segments = refl
-
-no_code : 0 ≡ length (place_segments [] 0)
-unfolding place_segments
-no_code = refl
-
-flags_final : (a b : Bool) → a ≡ b → (v : ℕ) (f : S.Flags) → v ≡ f.bits → cond a v (bit_and v 2046) ≡ (cond {A = S.Flags} b f (S.not_float_only f)).bits
+flags_final : (b : Bool) (v : ℕ) (f : S.Flags) → v ≡ f.bits → cond b v (bit_and v 2046) ≡ (cond {A = S.Flags} b f (S.not_float_only f)).bits
 unfolding S.not_float_only
-flags_final true true e v f q = q
-flags_final true false e v f q = absurd (true≢false e)
-flags_final false true e v f q = absurd (true≢false (sym e))
-flags_final false false e v f q = ap (λ (n : ℕ). bit_and n 2046) q
+flags_final true v f q = q
+flags_final false v f q = ap (λ (n : ℕ). bit_and n 2046) q
 
-loop_final : (a b : Bool) → a ≡ b → (v : Bool) (f : S.Flags) → v ≡ f.float_loop → cond a v false ≡ (cond {A = S.Flags} b f (S.not_float_only f)).float_loop
+loop_final : (b v : Bool) (f : S.Flags) → v ≡ f.float_loop → cond b v false ≡ (cond {A = S.Flags} b f (S.not_float_only f)).float_loop
 unfolding S.not_float_only
-loop_final true true e v f q = q
-loop_final true false e v f q = absurd (true≢false e)
-loop_final false true e v f q = absurd (true≢false (sym e))
-loop_final false false e v f q = refl
+loop_final true v f q = q
+loop_final false v f q = refl
 
 abbrev nothing_lowered : Abs
 nothing_lowered = mk [] [] false [] empty
 
+no_entries : {X : Type 0} {w o : ℕ} {Q : ℕ → X → Type 0} → Table w Q o 0 []
+no_entries = record { count = refl; rows = tt }
+
 begins : (tree words : List ℕ) → 16384 ≤ length words → Content tree nothing_open (R.start, words) nothing_lowered
+unfolding place_segments
 begins tree words h = record {
   enough = h;
-  beside = record { waiting_is = refl; stack_is = refl; loops_is = refl; handlers_is = refl; stack_max = refl; loops_max = refl; handlers_max = refl; stack_within = omega arith; loops_within = omega arith; handlers_within = omega arith; bits_are = refl; float_loop_is = refl; number_is = refl };
-  tables = record { open_base = refl; open_code = record { count = refl; rows = tt }; the_finished_code = record { count = no_code; rows = subst (λ (l : List Instruction). Rows 2 (InstructionAt words) FINISHED l) (sym no_segments) tt }; the_consts = record { count = refl; rows = tt }; the_posts = record { count = refl; rows = tt }; the_hashes = record { count = refl; rows = tt }; the_names = record { count = refl; rows = tt }; the_temps = record { count = refl; rows = tt }; the_members = record { count = refl; rows = tt }; the_stores = record { count = refl; rows = tt }; path_count = refl; call_count = refl; the_calls = omega arith; the_open = tt; argument_count = refl };
+  beside = let z : Counter 0 0 0 0 = record { open_is = refl; most_is = refl; within = omega arith } in record { waiting_is = refl; counted = record { operands = z; loops = z; handlers = z }; bits_are = refl; float_loop_is = refl; number_is = refl };
+  tables = record {
+    code_held = record {
+      open_base = refl;
+      open_code = no_entries;
+      the_finished_code = no_entries;
+    };
+    pools_held = record { the_consts = no_entries; the_posts = no_entries; the_hashes = no_entries; the_names = no_entries; the_temps = no_entries; the_members = no_entries };
+    stores_held = record { the_stores = no_entries; path_count = refl };
+    calls_held = record { call_count = refl; the_calls = omega arith; the_open = tt; argument_count = refl };
+  };
 }
-
-end_word : word_of I.end ≡ word 48 0 0 0
-unfolding word_of
-end_word = refl
 
 module _ (tree words : List ℕ) (small : Bytes tree) (passed : questions tree ≡ 0) (enough : 16384 ≤ length words) where
   abbrev x : Lowered
@@ -315,7 +257,6 @@ module _ (tree words : List ℕ) (small : Bytes tree) (passed : questions tree �
       let f = fits_all.depths in
       let s = x.state.pools in
       let b = past x.code 0 in
-      let rc = r.code in
       let la = length-append (map (settle 0 0 0) x.code) (place_segments s.segments b) in
       let lm = length-map x.code (settle 0 0 0) in
       let e : b + 0 ≡ b = omega arith in
@@ -324,18 +265,11 @@ module _ (tree words : List ℕ) (small : Bytes tree) (passed : questions tree �
       let lx = length-map s.members member_entry in
       let lc = length-map s.calls (place_call b) in
       let sa = stored_args b s.calls in
-      let ra = r.arguments in
-      let rm = r.members in
-      let rk = r.calls in
-      let rp = r.posts in
-      let fo = f.operands in
-      let fl = f.loops in
-      let fh = f.handlers in
-      record { code = omega arith; consts = r.consts; posts = omega arith; hashes = r.hashes; names = r.names; temps = r.temps; members = omega arith; stores = r.stores; paths = r.paths; calls = omega arith; arguments = omega arith; operands = omega arith; loops = omega arith; handlers = omega arith }
+      search rules
 
   whole_does : Does tree ((lower (settings tree) (parse tree)).expr false ⨾ put I.end) nothing_open (λ h. L.instr 48 0 0 0 (R.expr tree LEVELS ROOT false h))
-  unfolding parse
-  whole_does = thens ((child tree (not_larger tree passed) LEVELS (omega arith) ROOT (sound tree passed)).expr_is false nothing_open) (instr_does I.end end_word)
+  unfolding parse word_of
+  whole_does = thens ((child tree (not_larger tree passed) LEVELS (omega arith) ROOT (sound tree passed)).expr_is false nothing_open) (instr_does I.end refl)
 
   abbrev settled : Abs
   settled = mk [] (map (aim 0 0) x.code) false [] x.state
@@ -353,7 +287,7 @@ module _ (tree words : List ℕ) (small : Bytes tree) (passed : questions tree �
   -- the flags
   in_a_loop : in_loop (R.lowered tree words).0 ≡ in_float_loop x.state.deepest.operands x.state.deepest.loops x.state.deepest.handlers (length x.state.pools.temps)
   unfolding in_loop
-  in_a_loop = let b = content.beside in let t = content.tables.the_temps.count in rw (b.stack_max, b.loops_max, b.handlers_max, t)
+  in_a_loop = let b = content.beside in let t = content.tables.pools_held.the_temps.count in rw (b.counted.operands.most_is, b.counted.loops.most_is, b.counted.handlers.most_is, t)
 
   pub holds : Holds tree (R.lowered tree words).1 (sections_of (R.lowered tree words).0) (program (settings tree) (parse tree))
   unfolding sections_of program link final_flags
@@ -364,9 +298,8 @@ module _ (tree words : List ℕ) (small : Bytes tree) (passed : questions tree �
       let bs = content.beside in
       let s = x.state.pools in
       let b = past x.code 0 in
-      let n = t.open_code.count in
       let lm = length-map x.code (settle 0 0 0) in
-      let la = length_aimed 0 0 x.code in
+      let la = length-map x.code (aim 0 0) in
       let pl = past_length x.code in
       let eb : h.0.top ≡ b = omega arith in
       let e0 : b + 0 ≡ b = omega arith in
@@ -374,7 +307,6 @@ module _ (tree words : List ℕ) (small : Bytes tree) (passed : questions tree �
       let fit = fits_all.code.each in
       let fitm = every_left FitInstruction (map (settle 0 0 0) x.code) (place_segments s.segments b) fit in
       let fitf = subst (λ (l : List Instruction). Every FitInstruction l) ps (every_right FitInstruction (map (settle 0 0 0) x.code) (place_segments s.segments b) fit) in
-      let nf = t.the_finished_code.count in
       let lf = length-map (place_segments s.segments 0) (relocate b) in
       let il = in_a_loop in
       record {
@@ -382,30 +314,30 @@ module _ (tree words : List ℕ) (small : Bytes tree) (passed : questions tree �
         finished = map (relocate b) (place_segments s.segments 0);
         code = ap (λ (l : List Instruction). map (settle 0 0 0) x.code ++ l) ps;
         main_count = omega arith;
-        main_is = main_is ws x.code t.open_code.rows fitm;
+        main_is = main_is ws x.code t.code_held.open_code.rows fitm;
         finished_count = omega arith;
-        finished_is = subst (λ (m : ℕ). Each halt (λ k i. InstructionIs ws m (FINISHED + 2 * k) i) (map (relocate b) (place_segments s.segments 0))) (sym eb) (finished_is ws b (place_segments s.segments 0) t.the_finished_code.rows fitf);
-        consts_count = sym t.the_consts.count;
-        consts = λ k l. let v = each_rows 1 (WordAt ws) CONSTS s.consts 0 t.the_consts.rows k l in let q : CONSTS + 1 * k ≡ CONSTS + k = omega arith in let v' = ap (λ (j : ℕ). get_or ws j 0) (sym q) ∙ v in omega (arith, v');
+        finished_is = subst (λ (m : ℕ). Each halt (λ k i. InstructionIs ws m (FINISHED + 2 * k) i) (map (relocate b) (place_segments s.segments 0))) (sym eb) (finished_is ws b (place_segments s.segments 0) t.code_held.the_finished_code.rows fitf);
+        consts_count = sym t.pools_held.the_consts.count;
+        consts = λ k l. let v = each_rows 1 (WordAt ws) CONSTS s.consts 0 t.pools_held.the_consts.rows k l in let q : CONSTS + 1 * k ≡ CONSTS + k = omega arith in let v' = ap (λ (j : ℕ). get_or ws j 0) (sym q) ∙ v in omega (arith, v');
         further = s.posts;
         posts = refl;
-        posts_count = sym t.the_posts.count;
-        posts_are = each_rows 2 _ POSTS s.posts identity t.the_posts.rows;
-        hashes_count = sym t.the_hashes.count;
-        hashes = each_rows 2 _ HASHES s.hashes 0 t.the_hashes.rows;
-        names_count = sym t.the_names.count;
-        names = each_rows 3 _ NAMES s.names _ t.the_names.rows;
-        temps_count = sym t.the_temps.count;
-        temps = λ k l. let q : TEMPS + 1 * k ≡ TEMPS + k = omega arith in ap (λ (j : ℕ). get_or ws j 0) (sym q) ∙ each_rows 1 (WordAt ws) TEMPS s.temps 0 t.the_temps.rows k l;
-        members_count = length-map s.members member_entry ∙ sym t.the_members.count;
-        members = members_held ws s.members t.the_members.rows;
-        stores_count = sym t.the_stores.count;
-        stores = λ k l. (each_rows 4 _ STORES s.stores _ t.the_stores.rows k l).0;
-        calls_count = length-map s.calls (place_call b) ∙ sym t.call_count;
-        calls = subst (λ (m : ℕ). Each (record { index = 0; impl = 0; starts = [] }) (λ k q. CallIs ws m (CALLS + 4 * k) q) (map (place_call b) s.calls)) (sym eb) (calls_placed ws b s.calls (calls_all ws h.0.arguments CALLS 0 s.calls (let ac = t.argument_count in omega arith) t.the_calls));
-        stack = bs.stack_max;
-        loops = bs.loops_max;
-        handlers = bs.handlers_max;
-        flags = flags_final (in_loop h.0) _ il h.0.flags x.state.flags bs.bits_are;
-        float_loop = loop_final (in_loop h.0) _ il h.0.float_loop x.state.flags bs.float_loop_is;
+        posts_count = sym t.pools_held.the_posts.count;
+        posts_are = each_rows 2 _ POSTS s.posts identity t.pools_held.the_posts.rows;
+        hashes_count = sym t.pools_held.the_hashes.count;
+        hashes = each_rows 2 _ HASHES s.hashes 0 t.pools_held.the_hashes.rows;
+        names_count = sym t.pools_held.the_names.count;
+        names = each_rows 3 _ NAMES s.names _ t.pools_held.the_names.rows;
+        temps_count = sym t.pools_held.the_temps.count;
+        temps = λ k l. let q : TEMPS + 1 * k ≡ TEMPS + k = omega arith in ap (λ (j : ℕ). get_or ws j 0) (sym q) ∙ each_rows 1 (WordAt ws) TEMPS s.temps 0 t.pools_held.the_temps.rows k l;
+        members_count = length-map s.members member_entry ∙ sym t.pools_held.the_members.count;
+        members = members_held ws s.members t.pools_held.the_members.rows;
+        stores_count = sym t.stores_held.the_stores.count;
+        stores = λ k l. (each_rows 4 _ STORES s.stores _ t.stores_held.the_stores.rows k l).0;
+        calls_count = length-map s.calls (place_call b) ∙ sym t.calls_held.call_count;
+        calls = subst (λ (m : ℕ). Each (record { index = 0; impl = 0; starts = [] }) (λ k q. CallIs ws m (CALLS + 4 * k) q) (map (place_call b) s.calls)) (sym eb) (calls_placed ws b s.calls (calls_all ws h.0.arguments CALLS 0 s.calls (let ac = t.calls_held.argument_count in omega arith) t.calls_held.the_calls));
+        stack = bs.counted.operands.most_is;
+        loops = bs.counted.loops.most_is;
+        handlers = bs.counted.handlers.most_is;
+        flags = rw il (flags_final _ h.0.flags x.state.flags bs.bits_are);
+        float_loop = rw il (loop_final _ h.0.float_loop x.state.flags bs.float_loop_is);
       }

@@ -3,7 +3,7 @@ use Rattle.std.specs.Prelude.{Bool, false, cond}
 use Rattle.std.specs.Int.Bits.{bit_and}
 use Rattle.program.specs.Kinds.{in_float_loop, NOT_FLOAT}
 use Rattle.card.specs.declared.Sections.{Sections}
-use Rattle.builder.specs.declared.State.{State}
+use Rattle.lowering.specs.Held.{State}
 
 -- 01, Modules: "Stack over 16, loops over 4, handlers over 4 or temps over 8 clears FLOAT_ONLY and float_loop."
 unfoldable pub in_loop : State → Bool

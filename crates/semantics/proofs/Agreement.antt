@@ -11,13 +11,13 @@ use Rattle.program.specs.Instruction.{Plain, hash, resource, this, negate, not, 
 use Rattle.program.specs.Program.{name_at, StoreRoot, root_var, root_temp, root_other, Program, post_at, slot_at, member_at}
 use Rattle.semantics.proofs.BoundedControl.{Whole}
 use Rattle.semantics.proofs.BoundedRules.{tree_bound}
-use Rattle.semantics.proofs.Relations.{Zip, znil, zcons, zip_length, name_rel, name_left, hash_rel, math_rel, query_rel, one_rel, two_rel, some_rel, just_rel, three_rel}
+use Rattle.semantics.proofs.Relations.{Zip, znil, zcons, zip_length, either_rel, name_rel, kind_rel, name_one, hash_rel, math_rel, query_rel}
 use Rattle.semantics.proofs.SimulatedCalls.{Tree-s}
 use Rattle.semantics.proofs.Simulation.{Sim}
 use Rattle.semantics.specs.Lowering.{Lowerings, member_read, with_root, member_store, is_member, target_refusal, unless, equal_const, array_element, lower_plain, lower_rule, lower, lowers}
 use Rattle.semantics.specs.Machine.{root_at, plain_action, taking_action, taken, reading_action, guard_action, guard_up, each_action}
-use Rattle.semantics.specs.Payloads.{as_hash, float_of, const_of, some, Path, path}
-use Rattle.semantics.specs.Pieces.{Lowering, put, failing, ◌⨾◌, with_name, with_temp, with_post, post_instruction}
+use Rattle.semantics.specs.Payloads.{as_hash, float_of, const_of, one, Path, path}
+use Rattle.semantics.specs.Pieces.{Lowering, put, failing, ◌⨾◌, with_name, with_temp, with_post, constant, post_instruction}
 use Rattle.ast.specs.Header.{Settings}
 use Rattle.ast.specs.Rules.{Rule, rule_at}
 use Rattle.ast.specs.Rules as R
@@ -58,6 +58,11 @@ module _ (S : Settings) (P : Program) (E : ℕ) (r : Result) where
   pl : {e : Scope} (i : Plain) → S' e (put (plain i)) (logs (plain_action P i))
   pl i = Z.plain_s P E r i
 
+  -- the first child, or else a constant
+  other_s : (k : ℕ) {ls : List Lowerings} {ms : List Walkings} → Zip T' ls ms → (e : Scope) → S' e (one ls (constant k) (λ a. a.expr e.loop)) (one ms (logs (e_const k)) (λ a. a.expr e))
+  other_s k znil e = Z.constant_s P E r k
+  other_s k (zcons a z) e = a.expr e
+
   -- rules over lists of children
   statements_s : (o : ℕ) {ls : List Lowerings} {ms : List Walkings} → Zip T' ls ms → (e : Scope) → S' e (L.statements o ls e.loop) (K.statements o ms e)
   unfolding L.statements K.statements
@@ -86,7 +91,7 @@ module _ (S : Settings) (P : Program) (E : ℕ) (r : Result) where
   -- stores, loads, and the variable of a ForEach
   root_s : {e : Scope} (v : Payload) (g : StoreRoot → Lowering) (u : StoreRoot → Walking) → ((x : StoreRoot) → S' e (g x) (u (root_at P x))) → S' e (with_root v g) (u (root_shown v))
   unfolding with_root root_shown root_at
-  root_s {e} v g u h = name_rel (λ f x. S' e f (u x)) 4 v (name_rel (λ f x. S' e f (u x)) 5 v (h root_other) (λ n. with_t n _ (λ x. u (root_temp x)) (λ t. h (root_temp t)))) (λ n. with_n n _ (λ x. u (root_var x)) (λ k. h (root_var k)))
+  root_s {e} v g u h = kind_rel (λ f x. S' e f (u x)) v (h root_other) (λ n. with_t n _ (λ x. u (root_temp x)) (λ t. h (root_temp t))) (λ n. with_n n _ (λ x. u (root_var x)) (λ k. h (root_var k)))
 
   member_store_s : {e : Scope} (x : Bool) (m : Path) (k : ℕ) → S' e (cond x (member_store m k) (failing 7)) (logs (e_store_member (root_shown m.root) m.hashes (post_at P k)))
   unfolding member_store plain_action
@@ -95,7 +100,7 @@ module _ (S : Settings) (P : Program) (E : ℕ) (r : Result) where
 
   stores_s : {e : Scope} (x : Rule) (v : Payload) (m : Path) (p : Post) → S' e (L.stores x v m p) (K.stores v m (shown p))
   unfolding L.stores K.stores plain_action
-  stores_s {e} x v m p = with_p p _ (K.stores v m) λ k. name_rel (S' e) 4 v (name_rel (S' e) 5 v (member_store_s (is_member x && m.fine) m k) (λ n. with_t n _ (λ t. logs (e_store_temp t (post_at P k))) (λ t. pl (store_temp t k)))) (λ n. with_n n _ (λ t. logs (e_store_var t (post_at P k))) (λ i. pl (store_var i k)))
+  stores_s {e} x v m p = with_p p _ (K.stores v m) λ k. kind_rel (S' e) v (member_store_s (is_member x && m.fine) m k) (λ n. with_t n _ (λ t. logs (e_store_temp t (post_at P k))) (λ t. pl (store_temp t k))) (λ n. with_n n _ (λ t. logs (e_store_var t (post_at P k))) (λ i. pl (store_var i k)))
 
   unless_s : {e : Scope} (x : ℕ) {f : Lowering} {u : Walking} → S' e f u → S' e (unless x f) u
   unfolding unless
@@ -110,16 +115,12 @@ module _ (S : Settings) (P : Program) (E : ℕ) (r : Result) where
   variable_s : {e : Scope} (ts : Forest) (g : EachNext → Lowering) (u : Action → Walking) → ((i : EachNext) → S' e (g i) (u (each_action P i))) → S' e (L.variable ts g) (K.variable ts u)
   unfolding L.variable K.variable L.each_of K.each_of each_action
   variable_s nil g u h = no_s
-  variable_s {e} (cons (node x o v us) ts) g u h = name_rel (S' e) 4 v (name_rel (S' e) 5 v no_s (λ n. with_t n _ (λ t. u (e_each_next_temp t)) (λ t. h (each_next_temp t)))) (λ n. with_n n _ (λ t. u (e_each_next_var t)) (λ k. h (each_next_var k)))
+  variable_s {e} (cons (node x o v us) ts) g u h = kind_rel (S' e) v no_s (λ n. with_t n _ (λ t. u (e_each_next_temp t)) (λ t. h (each_next_temp t))) (λ n. with_n n _ (λ t. u (e_each_next_var t)) (λ k. h (each_next_var k)))
 
   loaded_s : (v : Payload) (p : Post) (e : Scope) → S' e (L.loaded v p) (K.loaded v (shown p) e)
   unfolding L.loaded K.loaded reading_action
-  loaded_s v p e = with_p p _ (λ q. K.loaded v q e) λ k. name_rel (S' e) 4 v (name_rel (S' e) 5 v (name_rel (S' e) 3 v no_s (λ n. Z.flagged_s P E r _ (with_n n _ (λ t. loads e (e_load_ctx t (post_at P k))) (λ i. Y.may_s P E r (load_ctx i k)))))
-      (λ n. with_t n _ (λ t. loads e (e_load_temp t (post_at P k))) (λ i. Y.may_s P E r (load_temp i k)))) (λ n. Z.flagged_s P E r _ (with_n n _ (λ t. loads e (e_load_var t (post_at P k))) (λ i. Y.may_s P E r (load_var i k))))
-
-  fits_s : {e : Scope} (c : Bool) {f : Lowering} {u : Walking} → S' e f u → S' e (cond c f (failing 7)) (cond c u pass)
-  fits_s true a = a
-  fits_s false a = no_s
+  loaded_s v p e = with_p p _ (λ q. K.loaded v q e) λ k. kind_rel (S' e) v (name_rel (S' e) 3 v no_s (λ n. Z.flagged_s P E r _ (with_n n _ (λ t. loads e (e_load_ctx t (post_at P k))) (λ i. Y.may_s P E r (load_ctx i k)))))
+      (λ n. with_t n _ (λ t. loads e (e_load_temp t (post_at P k))) (λ i. Y.may_s P E r (load_temp i k))) (λ n. Z.flagged_s P E r _ (with_n n _ (λ t. loads e (e_load_var t (post_at P k))) (λ i. Y.may_s P E r (load_var i k))))
 
   post_s : {e : Scope} (p : Post) → S' e (post_instruction p) (K.posted p)
   post_s p = Z.post_instr_s P E r (is_identity p) p refl
@@ -129,15 +130,10 @@ module _ (S : Settings) (P : Program) (E : ℕ) (r : Result) where
   unary_s true p = with_p p _ (λ q. logs (Action.e_negate q)) (λ k. pl (Plain.negate k))
   unary_s false p = with_p p _ (λ q. logs (Action.e_not q)) (λ k. pl (Plain.not k))
 
-  host_s : (f : ℕ) (p : Post) {ls : List Lowerings} {ms : List Walkings} → Zip T' ls ms → (e : Scope)
-      → S' e (some ls (failing 7) (λ a ys. cond (leb (length ls) 255) (L.host_math f (length ls) p a ys e.loop) (failing 7)))
-      (some ms pass (λ a ys. cond (leb (length ms) 255) (K.host_math (length ys) (e_host_math f (length ms) (shown p)) a ys e) pass))
-  host_s f p znil e = no_s
-  host_s f p (zcons {qs = ms} a z) e = rw (zip_length z) (fits_s (leb (suc (length ms)) 255) (hosted_s f (suc (length ms)) p a z e))
-
   array_s : (x : Bool) (p : Post) (v : Payload) (ts : Forest) {ls : List Lowerings} {ms : List Walkings} → Zip T' ls ms → (e : Scope) → S' e (cond x (array_element p v ls e.loop) (failing 5)) (walk_plain S R.array p v ts ms e)
   unfolding array_element walk_plain reading_action
-  array_s true p v ts h e = just_rel (S' e) h no_s λ l m a. name_rel (S' e) 7 v no_s (λ n. Z.flagged_s P E r _ (a.expr e ⨟ with_n n _ (λ t. loads e (e_array_element t (shown p))) (λ k. with_p p _ (λ q. loads e (e_array_element (name_at P k) q)) (λ q. Y.may_s P E r (Instr.array_element k q)))))
+  array_s true p v ts (zcons a znil) e = name_rel (S' e) 7 v no_s (λ n. Z.flagged_s P E r _ (a.expr e ⨟ with_n n _ (λ t. loads e (e_array_element t (shown p))) (λ k. with_p p _ (λ q. loads e (e_array_element (name_at P k) q)) (λ q. Y.may_s P E r (Instr.array_element k q)))))
+  array_s true p v ts h e = no_s
   array_s false p v ts h e = Z.failing_s P E r 4
 
   plain_s : (x : R.Plain) (p : Post) (v : Payload) (ts : Forest) {ls : List Lowerings} {ms : List Walkings} → Zip T' ls ms → (e : Scope) → S' e (lower_plain S x p v ts ls e.loop) (walk_plain S x p v ts ms e)
@@ -151,46 +147,52 @@ module _ (S : Settings) (P : Program) (E : ℕ) (r : Result) where
   plain_s R.this p v ts h e = with_p p _ (λ q. logs (e_this q)) (λ k. pl (this k))
   plain_s R.load p v ts h e = loaded_s v p e
   plain_s R.query p v ts h e = query_rel (S' e) v no_s (λ i m. Z.flagged_s P E r _ (X.query_s P E r i m p h))
-  plain_s (R.compare o) p v ts h e = some_rel (S' e) h no_s λ l m a ls ms z.
-      with_p p _ (λ q. some ms (m.expr e then logs (e_cmp_const o (const_of v) q)) λ b zs. m.expr e then pushes then b.expr e then takes 1 (e_cmp o q)) λ q.
-      some_rel (S' e) z (a.expr e ⨟ Z.with_const_s P E r _ _ (λ t. logs (e_cmp_const o t (post_at P q))) (λ k. pl (cmp_const o k q))) λ l m b ls ms z. Z.pushed_s P E r (a.expr e) (b.expr e ⨟ Z.taking_s P E r (cmp o q))
-  plain_s (R.equal o) p v ts h e = some_rel (S' e) h no_s λ l m a ls ms z.
-      with_p p _ (λ q. some ms (m.expr e then as_hash v (logs (e_eq_const o (float_of v) q)) (λ x. logs (e_eq_hash o x q))) λ b zs. m.expr e then pushes then b.expr e then takes 1 (e_eq o q)) λ q.
-      some_rel (S' e) z (a.expr e ⨟ hash_rel (S' e) v (Z.with_const_s P E r _ _ (λ t. logs (e_eq_const o t (post_at P q))) (λ k. pl (eq_const o k q))) (λ x. Z.flagged_s P E r _ (Z.with_hash_s P E r x _ (λ t. logs (e_eq_hash o t (post_at P q))) (λ k. pl (eq_hash o k q)))))
-      λ l m b ls ms z. Z.pushed_s P E r (a.expr e) (b.expr e ⨟ Z.taking_s P E r (eq o q))
-  plain_s (R.logic j) p v ts h e = some_rel (S' e) h no_s λ l m a ls ms z. with_p p _ (λ q. K.logic (cond j (e_and_step q) (e_or_step q)) (cond j (e_and_last q) (e_or_last q)) m ms e) (λ q. junction_s j q a z e)
-  plain_s R.coalesce p v ts h e = two_rel (S' e) h no_s λ l m a l' m' b. Y.coalesce_s P E r (a.expr (in_a_handler e)) (b.expr e) ⨟ post_s p
-  plain_s R.conditional p v ts h e = some_rel (S' e) h no_s λ l m a ls ms z. some_rel (S' e) z no_s λ l m b ls ms z. a.expr e ⨟ Y.branch_s P E r (b.expr e) (one_rel (S' e) z (Z.constant_s P E r 0) (λ l m c. c.expr e)) ⨟ post_s p
+  plain_s (R.compare o) p v ts (zcons {b = m} a znil) e = with_p p _ (λ q. m.expr e then logs (e_cmp_const o (const_of v) q)) λ q. a.expr e ⨟ Z.with_const_s P E r _ _ (λ t. logs (e_cmp_const o t (post_at P q))) (λ k. pl (cmp_const o k q))
+  plain_s (R.compare o) p v ts (zcons {b = m} a (zcons {b = n} b z)) e = with_p p _ (λ q. m.expr e then pushes then n.expr e then takes 1 (e_cmp o q)) λ q. Z.pushed_s P E r (a.expr e) (b.expr e ⨟ Z.taking_s P E r (cmp o q))
+  plain_s (R.equal o) p v ts (zcons {b = m} a znil) e = with_p p _ (λ q. m.expr e then as_hash v (logs (e_eq_const o (float_of v) q)) (λ x. logs (e_eq_hash o x q))) λ q. a.expr e ⨟ hash_rel (S' e) v
+      (Z.with_const_s P E r _ _ (λ t. logs (e_eq_const o t (post_at P q))) (λ k. pl (eq_const o k q)))
+      (λ x. Z.flagged_s P E r _ (Z.with_hash_s P E r x _ (λ t. logs (e_eq_hash o t (post_at P q))) (λ k. pl (eq_hash o k q))))
+  plain_s (R.equal o) p v ts (zcons {b = m} a (zcons {b = n} b z)) e = with_p p _ (λ q. m.expr e then pushes then n.expr e then takes 1 (e_eq o q)) λ q. Z.pushed_s P E r (a.expr e) (b.expr e ⨟ Z.taking_s P E r (eq o q))
+  plain_s (R.logic j) p v ts (zcons {b = m} {qs = ms} a z) e = with_p p _ (λ q. K.logic (cond j (e_and_step q) (e_or_step q)) (cond j (e_and_last q) (e_or_last q)) m ms e) (λ q. junction_s j q a z e)
+  plain_s R.coalesce p v ts (zcons a (zcons b z)) e = Y.coalesce_s P E r (a.expr (in_a_handler e)) (b.expr e) ⨟ post_s p
+  plain_s R.conditional p v ts (zcons a (zcons b z)) e = a.expr e ⨟ Y.branch_s P E r (b.expr e) (other_s 0 z e) ⨟ post_s p
   plain_s R.statements p v ts h e = statements_s _ h e
-  plain_s R.loop p v ts h e = Z.flagged_s P E r _ (two_rel (S' e) h no_s λ l m a l' m' b. a.expr e ⨟ Y.looped_s P E r (b.less (in_a_loop e)) (b.expr (in_a_loop e)) ⨟ Z.constant_s P E r _)
-  plain_s R.for_each p v ts h e = Z.flagged_s P E r _ (three_rel (S' e) h no_s λ l m a l' m' b l'' m'' c. variable_s ts _ (λ x. m'.expr e then K.eached x (m''.expr (in_a_loop e)) then logs (e_const (fold p 0))) (λ i. b.expr e ⨟ Y.eached_s P E r i (c.less (in_a_loop e)) (c.expr (in_a_loop e)) ⨟ Z.constant_s P E r _))
+  plain_s R.loop p v ts (zcons a (zcons b z)) e = Z.flagged_s P E r _ (a.expr e ⨟ Y.looped_s P E r (b.less (in_a_loop e)) (b.expr (in_a_loop e)) ⨟ Z.constant_s P E r _)
+  plain_s R.loop p v ts h e = Z.flagged_s P E r _ no_s
+  plain_s R.for_each p v ts (zcons a (zcons {b = m} b (zcons {b = n} c z))) e = Z.flagged_s P E r _ (variable_s ts _ (λ x. m.expr e then K.eached x (n.expr (in_a_loop e)) then logs (e_const (fold p 0)))
+      (λ i. b.expr e ⨟ Y.eached_s P E r i (c.less (in_a_loop e)) (c.expr (in_a_loop e)) ⨟ Z.constant_s P E r _))
+  plain_s R.for_each p v ts h e = Z.flagged_s P E r _ no_s
   plain_s R.break p v ts h e = Y.break_s P E r e e.loop refl
   plain_s R.continue p v ts h e = Y.continue_s P E r e e.loop refl
-  plain_s R.assign p v ts h e = some_rel (S' e) h no_s λ l m a ls ms z. target_s ts (one_rel (S' e) z (Z.constant_s P E r _) (λ l m b. b.expr e)) p
-  plain_s R.bracket p v ts h e = one_rel (S' e) h no_s λ l m a. a.expr e
-  plain_s (R.unary u) p v ts h e = one_rel (S' e) h no_s λ l m a. a.expr e ⨟ unary_s u p
-  plain_s R.add p v ts h e = some_rel (S' e) h no_s λ l m a ls ms z. some_rel (S' e) z (a.expr e ⨟ post_s p) λ l m b ls ms z. Z.pushed_s P E r (a.expr e) (addition_s p b z e)
-  plain_s R.mul p v ts h e = two_rel (S' e) h no_s λ l m a l' m' b. Z.pushed_s P E r (a.expr e) (b.expr e ⨟ with_p p _ (λ q. takes 1 (e_mul q)) (λ q. Z.taking_s P E r (mul q)))
-  plain_s R.div p v ts h e = two_rel (S' e) h no_s λ l m a l' m' b. b.expr e ⨟ Y.guarded_s P E r (div_guard S.absolute) (a.expr e ⨟ with_p p _ (λ q. takes 1 (e_div q)) (λ q. Z.taking_s P E r (div q)))
-  plain_s (R.host_math u) p v ts h e = Z.flagged_s P E r _ (math_rel (S' e) v no_s (λ f. host_s f p h e))
+  plain_s R.assign p v ts (zcons a z) e = target_s ts (other_s _ z e) p
+  plain_s R.bracket p v ts (zcons a z) e = a.expr e
+  plain_s (R.unary u) p v ts (zcons a z) e = a.expr e ⨟ unary_s u p
+  plain_s R.add p v ts (zcons a znil) e = a.expr e ⨟ post_s p
+  plain_s R.add p v ts (zcons a (zcons b z)) e = Z.pushed_s P E r (a.expr e) (addition_s p b z e)
+  plain_s R.mul p v ts (zcons a (zcons b z)) e = Z.pushed_s P E r (a.expr e) (b.expr e ⨟ with_p p _ (λ q. takes 1 (e_mul q)) (λ q. Z.taking_s P E r (mul q)))
+  plain_s R.div p v ts (zcons a (zcons b z)) e = b.expr e ⨟ Y.guarded_s P E r (div_guard S.absolute) (a.expr e ⨟ with_p p _ (λ q. takes 1 (e_div q)) (λ q. Z.taking_s P E r (div q)))
+  plain_s (R.host_math u) p v ts znil e = Z.flagged_s P E r _ (math_rel (S' e) v no_s (λ f. no_s))
+  plain_s (R.host_math u) p v ts (zcons {qs = ms} a z) e = Z.flagged_s P E r _ (math_rel (S' e) v no_s (λ f. rw (zip_length z) (either_rel (S' e) (leb (suc (length ms)) 255) (hosted_s f (suc (length ms)) p a z e) no_s)))
   plain_s R.generic p v ts h e = Z.constant_s P E r _
-  plain_s R.refused p v ts h e = no_s
+  plain_s _ p v ts h e = no_s
 
   chained_s : (p : Post) (v : Payload) {ls : List Lowerings} {ms : List Walkings} → Zip T' ls ms → (n : Name) (e : Scope) → S' e (L.chained p v ls n e.loop) (K.member_read S p v ms e)
   unfolding L.chained K.member_read reading_action
-  chained_s p v h n e = one_rel (S' e) h no_s λ l m a. a.base n e ⨟ name_rel (S' e) 6 v no_s (λ k. Z.with_member_s P E r _ _ (λ t. loads e (e_member t (shown p))) (λ i. with_p p _ (λ q. loads e (e_member (member_at P i) q)) (λ q. Y.may_s P E r (member i q))))
+  chained_s p v znil n e = no_s
+  chained_s p v (zcons a z) n e = a.base n e ⨟ name_rel (S' e) 6 v no_s (λ k. Z.with_member_s P E r _ _ (λ t. loads e (e_member t (shown p))) (λ i. with_p p _ (λ q. loads e (e_member (member_at P i) q)) (λ q. Y.may_s P E r (member i q))))
 
   member_read_s : (p : Post) (v : Payload) {ls : List Lowerings} {ms : List Walkings} → Zip T' ls ms → (e : Scope) → S' e (member_read p v ls e.loop) (K.member_read S p v ms e)
   unfolding member_read
-  member_read_s p v h e = Z.flagged_s P E r _ (name_left (S' e) 6 v no_s (λ n. chained_s p v h n e))
+  member_read_s p v {ms = ms} h e = Z.flagged_s P E r _ (name_one (λ f. S' e f (K.member_read S p v ms e)) 6 v no_s (λ j n i. chained_s p v h n e))
 
   pointer_s : (p : Post) {ls : List Lowerings} {ms : List Walkings} → Zip T' ls ms → (e : Scope) → S' e (L.pointer p ls e.loop) (K.pointer S p ms e)
   unfolding L.pointer K.pointer plain_action guard_action guard_up
-  pointer_s p h e = Z.flagged_s P E r _ (two_rel (S' e) h no_s λ l m a l' m' b. with_p p _ (λ q. m.expr e then K.guarded (e_pointer_enter q) same (m'.expr e then logs (e_pointer_leave q))) λ q. a.expr e ⨟ Y.guarded_s P E r (pointer_enter q) (b.expr e ⨟ pl (pointer_leave q)))
+  pointer_s p (zcons {b = m} a (zcons {b = n} b z)) e = Z.flagged_s P E r _ (with_p p _ (λ q. m.expr e then K.guarded (e_pointer_enter q) same (n.expr e then logs (e_pointer_leave q))) λ q. a.expr e ⨟ Y.guarded_s P E r (pointer_enter q) (b.expr e ⨟ pl (pointer_leave q)))
+  pointer_s p h e = Z.flagged_s P E r _ no_s
 
   return_s : (p : Post) {ls : List Lowerings} {ms : List Walkings} → Zip T' ls ms → (e : Scope) → S' e (L.returning p ls e.loop) (K.returning S p ms e)
   unfolding L.returning K.returning
-  return_s p h e = one_rel (S' e) h (Z.constant_s P E r 0) (λ l m a. a.expr e) ⨟ with_p p _ returns (λ q. Y.ret_s P E r q)
+  return_s p h e = other_s 0 h e ⨟ with_p p _ returns (λ q. Y.ret_s P E r q)
 
   module _ {ls : List Lowerings} {ms : List Walkings} (h : Zip T' ls ms) (p : Post) (v : Payload) (ts : Forest) where
     whole_s : (x : Rule) → Whole (lower_rule S x p v ts ls) (walk_rule S x p v ts ms) → T' (lower_rule S x p v ts ls) (walk_rule S x p v ts ms)

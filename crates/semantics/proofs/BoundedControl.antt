@@ -14,7 +14,7 @@ use Rattle.semantics.specs.Demand3.{AtMost, Within}
 use Rattle.semantics.specs.Lowering.{query, Lowerings, called}
 use Rattle.semantics.specs.Pieces.{Lowering, put, with_post, fork}
 use Rattle.semantics.specs.Run.{Action, e_jump_if_falsy, e_loop_begin, e_loop_check, e_each_begin, Run, set_counts, set_outcomes, note, note_argument, handler+, handler-, same, opens, count, pick}
-use Rattle.semantics.specs.State.{to_cleanup, to_check, State}
+use Rattle.semantics.specs.State.{Item, State}
 use Rattle.semantics.specs.Walk.{coalesce, Completion, normal, missing, broke, again, returned, halted, out, Walking, Scope, inside, pass, returns, misses, loads, conditional, otherwise, ends, round, checks, rounds, nexts, begins, Walkings, segment}
 use Rattle.semantics.specs.Walk as K
 use Rattle.semantics.specs.Pieces as Q
@@ -57,15 +57,10 @@ load_b i a e = flushed (record { less = λ w. may_less e (note a w); back = λ c
 pub ret_b : (i : Instruction) (v : Post) → Fine (put i) (returns v)
 ret_b i v = flushed (record { less = λ w. omega arith; back = λ c n s m i. i; safe = λ c n s m i j w k l. (rw k j, l) })
 
-pub break_b : (l : Bool) → Fine (Q.jumps to_cleanup l) (K.jumps broke l)
+pub jumps_b : (i : Item) (to : Walking) → Less to → ((m c : Counts) (w : Run) → Within m w.log → In m c (to w)) → (l : Bool) → Fine (Q.jumps i l) (K.jumps to l)
 unfolding Q.jumps K.jumps
-break_b true = flushed (record { less = λ w. omega arith; back = λ c n s m i. i; safe = λ c n s m i j w k l. l })
-break_b false = flushed (record { less = λ w. omega arith; back = λ c n s m i. i; safe = λ c n s m i j w k l. (rw k j, l) })
-
-pub continue_b : (l : Bool) → Fine (Q.jumps to_check l) (K.jumps again l)
-unfolding Q.jumps K.jumps
-continue_b true = flushed (record { less = λ w. omega arith; back = λ c n s m i. i; safe = λ c n s m i j w k l. l })
-continue_b false = flushed (record { less = λ w. omega arith; back = λ c n s m i. i; safe = λ c n s m i j w k l. (rw k j, l) })
+jumps_b i to h k true = flushed (record { less = h; back = λ c n s m i. i; safe = λ c n s m i j w _ l. k m c w l })
+jumps_b i to h k false = flushed (record { less = λ w. omega arith; back = λ c n s m i. i; safe = λ c n s m i j w k l. (rw k j, l) })
 
 pub guarded_b : (g : Guard) (a : Action) (up d : Counts → Counts) → ((c : Counts) → d (up c) ≡ c) → {f : Lowering} {u : Walking} → Bound f u d → Fine (Q.guarded g up f) (K.guarded a up u)
 guarded_b g a up d y {f} {u} b = flushed (record {
@@ -88,21 +83,12 @@ pub otherwise_in : (m c : Counts) (v : Walking) → Safe m c c v → (x : Comple
 unfolding otherwise
 otherwise_in m c v h (normal w) q = (ap handler- q.0, q.1)
 otherwise_in m c v h (missing w) q = h (set_counts c w) refl q
-otherwise_in m c v h (broke w) q = q
-otherwise_in m c v h (again w) q = q
-otherwise_in m c v h (returned w) q = q
-otherwise_in m c v h (halted w) q = q
-otherwise_in m c v h (out w) q = q
+otherwise_in m c v h _ q = q
 
 pub otherwise_less : (c : Counts) (v : Walking) → Less v → (x : Completion) {k : ℕ} → left x ≤ k → left (otherwise c v x) ≤ k
 unfolding otherwise
-otherwise_less c v b (normal w) h = h
 otherwise_less c v b (missing w) h = let i = b (set_counts c w) in omega arith
-otherwise_less c v b (broke w) h = h
-otherwise_less c v b (again w) h = h
-otherwise_less c v b (returned w) h = h
-otherwise_less c v b (halted w) h = h
-otherwise_less c v b (out w) h = h
+otherwise_less c v b _ h = h
 
 pub coalesce_b : {f g : Lowering} {u v : Walking} → Fine f u → Fine g v → Fine (fork handler_push handler_pop handler+ f g) (coalesce u v)
 coalesce_b {f} {g} {u} {v} a b = flushed (record {
@@ -122,12 +108,9 @@ module _ (m c : Counts) (x : Bool) (j : AtMost (opens x c) m) where
   pub round_in : (next : Walking) → ((w : Run) → Within m w.log → In m c (next w)) → (y : Completion) → In m (opens x c) y → In m c (round x (opens x c) next y)
   unfolding round
   round_in next h (normal w) q = h w q.1
-  round_in next h (missing w) q = q
   round_in next h (broke w) q = end_in w q
   round_in next h (again w) q = h w q
-  round_in next h (returned w) q = q
-  round_in next h (halted w) q = q
-  round_in next h (out w) q = q
+  round_in next h _ q = q
 
 module _ (m c : Counts) where
   pub check_in : AtMost (opens true c) m → (more : Walking) → Safe m (opens true c) c more → (w : Run) → Within m w.log → In m c (checks (opens true c) more w)
@@ -147,12 +130,8 @@ module _ (m c : Counts) where
 pub round_less : (x : Bool) (c : Counts) (next : Walking) → Less next → (y : Completion) {n : ℕ} → left y ≤ n → left (round x c next y) ≤ n
 unfolding round
 round_less x c next h (normal w) l = let i = h w in omega arith
-round_less x c next h (missing w) l = l
-round_less x c next h (broke w) l = l
 round_less x c next h (again w) l = let i = h w in omega arith
-round_less x c next h (returned w) l = l
-round_less x c next h (halted w) l = l
-round_less x c next h (out w) l = l
+round_less x c next h _ l = l
 
 pub checks_less : (c : Counts) (more : Walking) → Less more → Less (checks c more)
 checks_less c more h w = pick_less w.outcomes (note e_loop_check (set_counts c w)) out more (ends true c) (λ w. omega arith) h (λ w. omega arith)
@@ -208,22 +187,16 @@ args_back (zcons a h) c s m i = (a.expr inside).back c false 0 s m (args_back h 
 pub segment_in : (m c d : Counts) (v : Walking) → Safe m c d v → (x : Completion) → In m c x → In m d (segment c v x)
 unfolding segment
 segment_in m c d v h (normal w) q = h (set_counts c w) refl q.1
-segment_in m c d v h (missing w) q = q
-segment_in m c d v h (broke w) q = q
-segment_in m c d v h (again w) q = q
 segment_in m c d v h (returned w) q = h (set_counts c w) refl q
 segment_in m c d v h (halted w) q = h (set_counts c w) refl q
-segment_in m c d v h (out w) q = q
+segment_in m c d v h _ q = q
 
 pub segment_less : (c : Counts) (v : Walking) → Less v → (x : Completion) {k : ℕ} → left x ≤ k → left (segment c v x) ≤ k
 unfolding segment
 segment_less c v b (normal w) h = let i = b (set_counts c w) in omega arith
-segment_less c v b (missing w) h = h
-segment_less c v b (broke w) h = h
-segment_less c v b (again w) h = h
 segment_less c v b (returned w) h = let i = b (set_counts c w) in omega arith
 segment_less c v b (halted w) h = let i = b (set_counts c w) in omega arith
-segment_less c v b (out w) h = h
+segment_less c v b _ h = h
 
 pub args_less : (j : ℕ) {ls : List Lowerings} {ms : List Walkings} → Zip Whole ls ms → (v : Walking) → Less v → Less (K.arguments j ms v)
 unfolding K.arguments

@@ -7,10 +7,11 @@ use Rattle.ast.specs.Tree.{Name}
 use Rattle.numeric.specs.Post.{Post, is_identity}
 use Rattle.program.specs.Instruction.{post, Instruction, plain}
 use Rattle.program.specs.Program.{Counts, MemberStore}
+use Rattle.semantics.proofs.Relations.{either_rel}
 use Rattle.semantics.specs.Demand3.{AtMost, Within}
-use Rattle.semantics.specs.Pieces.{Lowered, Lowering, flush, put, nothing, failing, put_const, ◌⨾◌, pushed, flagged, with_const, with_hash, with_name, with_temp, with_member, with_store, post_if, with_post, constant}
+use Rattle.semantics.specs.Pieces.{Lowered, Lowering, flush, put, nothing, failing, put_const, ◌⨾◌, pushed, flagged, Pool, interned, const_pool, name_pool, slot_pool, with_temp, with_store, post_pool, post_if, with_post, constant}
 use Rattle.semantics.specs.Run.{Action, e_const, e_post, e_push, Run, note, operand+, operands-, same, opens, closes, count}
-use Rattle.semantics.specs.State.{MemberRead, Flags, State, max_counts, raise, first}
+use Rattle.semantics.specs.State.{Flags, State, max_counts, raise, first}
 use Rattle.semantics.specs.Walk.{Completion, normal, missing, broke, again, returned, halted, out, Walking, after, ◌then◌, pass, logs, takes, pushes}
 
 -- Every piece uses up outcomes only, and at no event of it is more open than the maxima it raised. Assumes nothing.
@@ -78,16 +79,8 @@ refused r (suc e) h = omega arith
 pub cnt_path : {a b : ℕ} (c : Counts) → a ≡ b → ◌≡◌ {A = Counts} (record { operands = a; loops = c.loops; handlers = c.handlers }) (record { operands = b; loops = c.loops; handlers = c.handlers })
 cnt_path c h = λ i. record { operands = h i; loops = c.loops; handlers = c.handlers }
 
-abbrev pub ups : ℕ → Counts → Counts
-ups zero c = c
-ups (suc k) c = ups k (operand+ c)
-
-pub ups_cnt : (k : ℕ) (c : Counts) → ups k c ≡ record { operands = c.operands + k; loops = c.loops; handlers = c.handlers }
-ups_cnt zero c = cnt_path c (omega arith)
-ups_cnt (suc k) c = ups_cnt k (operand+ c) ∙ cnt_path c (omega arith)
-
-pub taken_all : (k : ℕ) (c : Counts) → operands- k (ups k c) ≡ c
-taken_all k c = ap (operands- k) (ups_cnt k c) ∙ cnt_path c (omega arith)
+pub taken : (c : Counts) → operands- 1 (operand+ c) ≡ c
+taken c = cnt_path c (omega arith)
 
 pub closed : (k : Bool) (c : Counts) → closes k (opens k c) ≡ c
 unfolding opens closes
@@ -113,22 +106,12 @@ ext_bound {f} {u} h d' e = record { less = h.less; back = h.back; safe = λ c b 
 pub after_in : (m c d : Counts) (v : Walking) → Safe m c d v → (x : Completion) → In m c x → In m d (after v x)
 unfolding after
 after_in m c d v h (normal w) q = h w q.0 q.1
-after_in m c d v h (missing w) q = q
-after_in m c d v h (broke w) q = q
-after_in m c d v h (again w) q = q
-after_in m c d v h (returned w) q = q
-after_in m c d v h (halted w) q = q
-after_in m c d v h (out w) q = q
+after_in m c d v h _ q = q
 
 pub after_less : (v : Walking) → Less v → (x : Completion) {k : ℕ} → left x ≤ k → left (after v x) ≤ k
 unfolding after
 after_less v b (normal w) h = let i = b w in omega arith
-after_less v b (missing w) h = h
-after_less v b (broke w) h = h
-after_less v b (again w) h = h
-after_less v b (returned w) h = h
-after_less v b (halted w) h = h
-after_less v b (out w) h = h
+after_less v b _ h = h
 
 infixr 50 ◌then_b◌
 pub ◌then_b◌ : {f g : Lowering} {u v : Walking} {d : Counts → Counts} → Fine f u → Bound g v d → Bound (f ⨾ g) (u then v) d
@@ -150,7 +133,7 @@ pushed_b {f} {g} {u} {v} {d} a b = record {
 }
 
 pub pushed_fine : {f g : Lowering} {u v : Walking} → Fine f u → Bound g v (operands- 1) → Fine (pushed f g) (u then pushes then v)
-pushed_fine a b = ext_bound (pushed_b a b) same (taken_all 1)
+pushed_fine a b = ext_bound (pushed_b a b) same taken
 
 -- pieces with one instruction or none
 pub nothing_b : Fine nothing pass
@@ -179,35 +162,25 @@ pub flagged_b : (k : Flags → Flags) {f : Lowering} {u : Walking} {d : Counts �
 flagged_b k a = record { less = a.less; back = λ c b n s. a.back c b n _; safe = λ c b n s. a.safe c b n _ }
 
 -- pools
-pub post_if_b : (x : Bool) (v : Post) (g : ℕ → Lowering) {u : Walking} {d : Counts → Counts} → ((k : ℕ) → Bound (g k) u d) → Bound (post_if x v g) u d
+pub interned_b : {A K : Type 0} (pool : Pool A K) (v : A) (g : ℕ → Lowering) {u : Walking} {d : Counts → Counts} → ((k : ℕ) → Bound (g k) u d) → Bound (interned pool v g) u d
+interned_b pool v g h = record { less = (h 0).less; back = λ c b n s. (h _).back c b n _; safe = λ c b n s. (h _).safe c b n _ }
+
+post_if_b : (x : Bool) (v : Post) (g : ℕ → Lowering) {u : Walking} {d : Counts → Counts} → ((k : ℕ) → Bound (g k) u d) → Bound (post_if x v g) u d
 unfolding post_if
-post_if_b true v g h = record { less = (h 0).less; back = λ c b n s. (h _).back c b n _; safe = λ c b n s. (h _).safe c b n _ }
-post_if_b false v g h = record { less = (h 0).less; back = λ c b n s. (h _).back c b n _; safe = λ c b n s. (h _).safe c b n _ }
+post_if_b true v g h = h 0
+post_if_b false v g h = interned_b post_pool v _ (λ k. h (suc k))
 
 pub post_b : (v : Post) (g : ℕ → Lowering) {u : Walking} {d : Counts → Counts} → ((k : ℕ) → Bound (g k) u d) → Bound (with_post v g) u d
 post_b v g h = post_if_b (is_identity v) v g h
 
-pub name_b : (v : Name) (g : ℕ → Lowering) {u : Walking} {d : Counts → Counts} → ((k : ℕ) → Bound (g k) u d) → Bound (with_name v g) u d
-name_b v g h = record { less = (h 0).less; back = λ c b n s. (h _).back c b n _; safe = λ c b n s. (h _).safe c b n _ }
-
 pub temp_b : (v : Name) (g : ℕ → Lowering) {u : Walking} {d : Counts → Counts} → ((k : ℕ) → Bound (g k) u d) → Bound (with_temp v g) u d
-temp_b v g h = record { less = (h 0).less; back = λ c b n s. (h _).back c b n _; safe = λ c b n s. (h _).safe c b n _ }
-
-pub member_b : (v : MemberRead) (g : ℕ → Lowering) {u : Walking} {d : Counts → Counts} → ((k : ℕ) → Bound (g k) u d) → Bound (with_member v g) u d
-member_b v g h = record { less = (h 0).less; back = λ c b n s. (h _).back c b n _; safe = λ c b n s. (h _).safe c b n _ }
-
-pub hash_b : (v : ℕ) (g : ℕ → Lowering) {u : Walking} {d : Counts → Counts} → ((k : ℕ) → Bound (g k) u d) → Bound (with_hash v g) u d
-hash_b v g h = record { less = (h 0).less; back = λ c b n s. (h _).back c b n _; safe = λ c b n s. (h _).safe c b n _ }
-
-pub with_const_b : (v : ℕ) (g : ℕ → Lowering) {u : Walking} {d : Counts → Counts} → ((k : ℕ) → Bound (g k) u d) → Bound (with_const v g) u d
-with_const_b v g h = record { less = (h 0).less; back = λ c b n s. (h _).back c b n _; safe = λ c b n s. (h _).safe c b n _ }
+temp_b v g h = flagged_b _ (interned_b name_pool v _ (λ k. interned_b slot_pool k g h))
 
 pub store_b : (v : MemberStore) (g : ℕ → Lowering) {u : Walking} {d : Counts → Counts} → ((k : ℕ) → Bound (g k) u d) → Bound (with_store v g) u d
 store_b v g h = record { less = (h 0).less; back = λ c b n s. (h _).back c b n _; safe = λ c b n s. (h _).safe c b n _ }
 
 pub constant_b : (v : ℕ) → Fine (constant v) (logs (e_const v))
-constant_b v = with_const_b v put_const (λ k. const_b k v)
+constant_b v = interned_b const_pool v put_const (λ k. const_b k v)
 
 pub post_instr_b : (x : Bool) (p : Post) → Fine (cond x nothing (with_post p (λ q. put (plain (post q))))) (cond x pass (logs (e_post p)))
-post_instr_b true p = nothing_b
-post_instr_b false p = post_b p _ (λ q. put_b (plain (post q)) (e_post p))
+post_instr_b x p = either_rel Fine x nothing_b (post_b p _ (λ q. put_b (plain (post q)) (e_post p)))

@@ -1,22 +1,22 @@
-use mathlib.Core.Path.{◌≡◌, refl}
+use mathlib.Core.Path.{◌≡◌, ap}
 use mathlib.Core.Bool.{Bool, true, false, cond, ◌&&◌}
 use mathlib.Core.List.{List, [], ◌∷◌, ◌++◌}
 use mathlib.Core.Option.{none}
 use Prim.Native.Nat.{ℕ, zero, suc, ◌≤◌, ◌+◌}
 use native.Mathlib.Omega.{arith}
-use native.Mathlib.Decide.{ℕ_discrete}
 use lib.ListN.{length}
 use lib.Dec.{leb}
 use Rattle.ast.specs.Tree.{Name, Payload, p_none, p_float, p_hash, p_math, p_name, p_query, Tree, node, Forest, nil, cons}
-use Rattle.numeric.specs.Post.{Post, is_identity, fold}
+use Rattle.numeric.specs.Post.{Post, is_identity}
 use Rattle.program.specs.Instruction as Instr
 use Rattle.program.specs.Instruction.{Plain, hash, resource, this, negate, not, and_last, or_last, pointer_leave, store_var, store_temp, store_member, cmp_const, eq_const, eq_hash, add_acc, add_last, mul, div, cmp, eq, host_math, load_var, load_temp, load_ctx, member, Guard, div_guard, and_step, or_step, pointer_enter, jump_if_falsy, EachNext, each_next_var, each_next_temp, plain, taking, reading, guard, end, jump, handler_push, handler_pop, return, call}
 use Rattle.program.specs.Program.{Counts, StoreRoot, root_var, root_temp, root_other}
 use Rattle.semantics.proofs.Costs.{Weight, weigh, weigh_append}
+use Rattle.semantics.proofs.Relations.{either_one, name_one, hash_one, math_one, query_one}
 use Rattle.semantics.specs.Link.{offsets_of, lowered}
 use Rattle.semantics.specs.Lowering.{query, arguments, pointer, returning, Lowerings, member_read, with_root, member_store, is_member, target_refusal, unless, equal_const, close_segment, fill, called, array_element, lower_plain, lower_rule, lower, lowers}
-use Rattle.semantics.specs.Payloads.{link, cases, as_name, as_hash, as_math, as_query, const_of, one, two, three, some, just, Path, longer, path, paths}
-use Rattle.semantics.specs.Pieces.{Lowered, Lowering, put, failing, ◌⨾◌, pushed, with_const, with_post, constant, post_instruction, fork, eached}
+use Rattle.semantics.specs.Payloads.{link, as_name, Path, longer, path, paths}
+use Rattle.semantics.specs.Pieces.{Lowered, Lowering, put, failing, ◌⨾◌}
 use Rattle.ast.specs.Header.{Settings}
 use Rattle.ast.specs.Rules.{Rule, rule_at}
 use Rattle.ast.specs.Rules as R
@@ -36,7 +36,7 @@ module _ (w : Weight) where
   ◌then_c◌ a b = C.◌then_c◌ w a b
 
   -- what a node pays for itself (a name also for its entries); and for its parent an instruction and an argument
-  abbrev named : Name → ℕ
+  abbrev pub named : Name → ℕ
   named n = w.na n + w.te + w.me n + w.sm + w.pa
 
   unfoldable pub pay : Payload → ℕ
@@ -58,47 +58,15 @@ module _ (w : Weight) where
     costs nil = 0
     costs (cons t ts) = cost t + w.i + w.ar + costs ts
 
-  -- readings of a payload: the name read is paid for
+  -- the name that is read is paid for
   module _ {X : Type 0} (R : X → Type 0) where
     name_c : (k : ℕ) (v : Payload) {d : X} {f : Name → X} → R d → ((n : Name) → named n ≤ pay v → R (f n)) → R (as_name k v d f)
-    unfolding as_name pay cases
-    name_c k p_none h i = h
-    name_c k (p_float v) h i = h
-    name_c k (p_hash v) h i = h
-    name_c k (p_math v) h i = h
-    name_c k (p_query j m) h i = h
-    name_c k (p_name j n) {d} {f} h i = go (ℕ_discrete j k)
-      where
-        go : (c : Dec (j ≡ k)) → R (elim c [ yes p ↦ f n | no p ↦ d ])
-        go (yes p) = i n (omega arith)
-        go (no p) = h
+    unfolding pay
+    name_c k v h i = name_one R k v h (λ j n e. let p = ap pay e in i n (omega arith))
 
-    hash_c : (v : Payload) {d : X} {f : ℕ → X} → R d → ((n : ℕ) → R (f n)) → R (as_hash v d f)
-    unfolding as_hash cases
-    hash_c p_none h i = h
-    hash_c (p_float v) h i = h
-    hash_c (p_hash v) h i = i v
-    hash_c (p_math v) h i = h
-    hash_c (p_query j m) h i = h
-    hash_c (p_name j n) h i = h
-
-    math_c : (v : Payload) {d : X} {f : ℕ → X} → R d → ((n : ℕ) → R (f n)) → R (as_math v d f)
-    unfolding as_math cases
-    math_c p_none h i = h
-    math_c (p_float v) h i = h
-    math_c (p_hash v) h i = h
-    math_c (p_math v) h i = i v
-    math_c (p_query j m) h i = h
-    math_c (p_name j n) h i = h
-
-    query_c : (v : Payload) {d : X} {f : ℕ → ℕ → X} → R d → ((j m : ℕ) → R (f j m)) → R (as_query v d f)
-    unfolding as_query cases
-    query_c p_none h i = h
-    query_c (p_float v) h i = h
-    query_c (p_hash v) h i = h
-    query_c (p_math v) h i = h
-    query_c (p_query j m) h i = i j m
-    query_c (p_name j n) h i = h
+    -- by the kind of a variable's name
+    kind_c : (v : Payload) {d : X} {f g : Name → X} → R d → ((n : Name) → named n ≤ pay v → R (f n)) → ((n : Name) → named n ≤ pay v → R (g n)) → R (as_name 4 v (as_name 5 v d f) g)
+    kind_c v o t e = name_c 4 v (name_c 5 v o t) e
 
   pub record Whole (a : Lowerings) (k : ℕ) : Type 0 where
     pub expr : (l : Bool) → Cost (a.expr l) k
@@ -109,30 +77,10 @@ module _ (w : Weight) where
     pnil : Pays [] nil
     pcons : {a : Lowerings} {t : Tree} {xs : List Lowerings} {ts : Forest} → Whole a (cost t) → Pays xs ts → Pays (a ∷ xs) (cons t ts)
 
-  -- the children; what they pay in sum
-  module _ {X : Type 0} (R : X → Type 0) where
-    some_c : {xs : List Lowerings} {ts : Forest} → Pays xs ts → {d : X} {f : Lowerings → List Lowerings → X} → R d
-        → ((a : Lowerings) (t : Tree) → Whole a (cost t) → (ys : List Lowerings) (us : Forest) → Pays ys us → ts ≡ cons t us → costs ts ≡ cost t + w.i + w.ar + costs us → R (f a ys)) → R (some xs d f)
-    unfolding cost
-    some_c pnil h i = h
-    some_c (pcons a z) h i = i _ _ a _ _ z refl refl
-
-    one_c : {xs : List Lowerings} {ts : Forest} → Pays xs ts → {d : X} {f : Lowerings → X} → R d
-        → ((a : Lowerings) (t : Tree) → Whole a (cost t) → cost t + w.i + w.ar ≤ costs ts → R (f a)) → R (one xs d f)
-    unfolding cost
-    one_c pnil h i = h
-    one_c (pcons {a = x} {t = t} a z) h i = i x t a (omega arith)
-
-    two_c : {xs : List Lowerings} {ts : Forest} → Pays xs ts → {d : X} {f : Lowerings → Lowerings → X} → R d
-        → ((a : Lowerings) (t : Tree) → Whole a (cost t) → (b : Lowerings) (u : Tree) → Whole b (cost u) → cost t + cost u + w.i + w.i + w.ar + w.ar ≤ costs ts → R (f a b)) → R (two xs d f)
-    unfolding cost
-    two_c pnil h i = h
-    two_c (pcons {a = x} {t = t} a z) h i = one_c z h (λ b u k e. i x t a b u k (omega arith))
-
   -- call arguments
   pub seg_grow : (x : Lowered) → C.size w (close_segment x) ≡ C.size w x.state + weigh w.i x.code + w.i
   unfolding C.sz
-  seg_grow x = let h = C.apart_append w x.state.pools.segments (x.code ++ (instr end ∷ [])) in let i = weigh_append w.i x.code (instr end ∷ []) in omega arith
+  seg_grow x = let h = C.sum_append (weigh w.i) x.state.pools.segments ((x.code ++ (instr end ∷ [])) ∷ []) in let i = weigh_append w.i x.code (instr end ∷ []) in omega arith
 
   args_c : {xs : List Lowerings} {ts : Forest} → Pays xs ts → (c : Counts) (s : State) → weigh w.ar (arguments xs c s).offsets + C.size w (arguments xs c s).state ≤ C.size w s + costs ts
   unfolding arguments cost
@@ -145,14 +93,10 @@ module _ (w : Weight) where
 
   pub call_grow : (v : CallInfo) (s : State) → C.size w (set_pools (set_calls (s.pools.calls ++ (v ∷ [])) s.pools) s) ≡ C.size w s + (w.ca + weigh w.ar (offsets_of v.offsets))
   unfolding C.sz
-  call_grow v s = let h = C.asked_append w s.pools.calls v in omega arith
-
-  pub fill_grow : (k : ℕ) (o : List ℕ) (s : State) → C.size w (set_pools (set_calls (fill k o s.pools.calls) s.pools) s) ≤ C.size w s + weigh w.ar o
-  unfolding C.sz
-  fill_grow k o s = let h = C.asked_fill w k o s.pools.calls in omega arith
+  call_grow v s = let h = C.sum_append (C.call_weight w) s.pools.calls (v ∷ []) in omega arith
 
   query_cost : (v m : ℕ) (p : Post) {xs : List Lowerings} {ts : Forest} → Pays xs ts → Cost (query v m p xs) (w.po + w.i + w.ca + costs ts)
-  unfolding offsets_of
+  unfolding offsets_of C.sz
   query_cost v m p {xs} z = record {
     by = λ c b n s.
         let e : CallInfo = record { index = v; impl = m; offsets = none } in
@@ -160,7 +104,7 @@ module _ (w : Weight) where
         let y = arguments xs c s' in
         let i = call_grow e s in
         let j = args_c z c s' in
-        let k = fill_grow (length s.pools.calls) y.offsets y.state in
+        let k = C.asked_fill w (length s.pools.calls) y.offsets y.state.pools.calls in
         let h = (C.post_c w p (λ q. put (call (length s.pools.calls) q)) (λ q. C.put_c w (call (length s.pools.calls) q))).by c b n (called v m xs c s) in omega arith;
   }
 
@@ -188,12 +132,9 @@ module _ (w : Weight) where
   -- what is stored to
   link_pays : (r : Rule) (v : Payload) (m : Path) → pay (link r v m).root + weigh w.pa (link r v m).hashes ≤ pay v + (pay m.root + weigh w.pa m.hashes)
   unfolding link pay
-  link_pays R.return v m = omega arith
-  link_pays R.entity v m = omega arith
-  link_pays R.pointer v m = omega arith
-  link_pays (R.plain r) v m = omega arith
   link_pays R.member v m = name_c (λ (l : Path). pay l.root + weigh w.pa l.hashes ≤ pay v + (pay m.root + weigh w.pa m.hashes)) 6 v (omega arith)
       (λ n e. let i = weigh_append w.pa m.hashes (n.hash ∷ []) in omega arith)
+  link_pays _ v m = omega arith
 
   mutual
     unfolding path cost pay
@@ -207,30 +148,23 @@ module _ (w : Weight) where
 
   root_c : (v : Payload) (g : StoreRoot → Lowering) {k : ℕ} → ((r : StoreRoot) → Cost (g r) k) → Cost (with_root v g) (pay v + k)
   unfolding with_root
-  root_c v g {k} h = name_c (λ f. Cost f (pay v + k)) 4 v (name_c (λ f. Cost f (pay v + k)) 5 v (C.weak w (h root_other) (omega arith)) (λ n e. C.weak w (C.with_temp_c w n _ (λ t. h (root_temp t))) (omega arith))) (λ n e. C.weak w (C.with_name_c w n _ (λ t. h (root_var t))) (omega arith))
+  root_c v g {k} h = kind_c (λ f. Cost f (pay v + k)) v (C.weak w (h root_other) (omega arith)) (λ n e. C.weak w (C.with_temp_c w n _ (λ t. h (root_temp t))) (omega arith)) (λ n e. C.weak w (C.with_name_c w n _ (λ t. h (root_var t))) (omega arith))
 
   member_store_c : (m : Path) (q : ℕ) → Cost (member_store m q) (pay m.root + (w.sa + w.sa + w.sm + weigh w.pa m.hashes) + w.i)
   unfolding member_store
   member_store_c m q = C.weak w (C.flagged_c w _ (root_c m.root _ (λ r. C.with_store_c w (record { root = r; path = m.hashes }) _ (λ k. C.put_c w (plain (store_member k q)))))) (omega arith)
 
-  either_c : (x : Bool) {f : Lowering} {k : ℕ} → Cost f k → Cost (cond x f (failing 7)) k
-  either_c true a = a
-  either_c false a = C.failing_c w 7
-
   path_store_c : (r : Rule) (v : Payload) (us : Forest) (q : ℕ) → Cost (cond (is_member r && (link r v (paths us)).fine) (member_store (link r v (paths us)) q) (failing 7)) (w.sa + w.sa + w.i + pay v + costs us)
   unfolding is_member link
-  path_store_c R.return v us q = C.failing_c w 7
-  path_store_c R.entity v us q = C.failing_c w 7
-  path_store_c R.pointer v us q = C.failing_c w 7
-  path_store_c (R.plain r) v us q = C.failing_c w 7
   path_store_c R.member v us q = name_c (λ (m : Path). Cost (cond m.fine (member_store m q) (failing 7)) (w.sa + w.sa + w.i + pay v + costs us)) 6 v (C.failing_c w 7)
-      (λ n e. let h = paths_pay us in let i = weigh_append w.pa (paths us).hashes (n.hash ∷ []) in either_c (paths us).fine (C.weak w (member_store_c (longer n.hash (paths us)) q) (omega arith)))
+      (λ n e. let h = paths_pay us in let i = weigh_append w.pa (paths us).hashes (n.hash ∷ []) in either_one (λ f. Cost f (w.sa + w.sa + w.i + pay v + costs us)) (paths us).fine (C.weak w (member_store_c (longer n.hash (paths us)) q) (omega arith)) (C.failing_c w 7))
+  path_store_c _ v us q = C.failing_c w 7
 
   stores_c : (r : Rule) (v : Payload) (us : Forest) (p : Post) → Cost (L.stores r v (link r v (paths us)) p) (w.po + (w.sa + w.sa + w.i + pay v + costs us))
   unfolding L.stores
   stores_c r v us p =
       let m = w.sa + w.sa + w.i + pay v + costs us in
-      C.post_c w p _ λ q. name_c (λ f. Cost f m) 4 v (name_c (λ f. Cost f m) 5 v (path_store_c r v us q) (λ n e. C.weak w (C.with_temp_c w n _ (λ t. C.put_c w (plain (store_temp t q)))) (omega arith))) (λ n e. C.weak w (C.with_name_c w n _ (λ k. C.put_c w (plain (store_var k q)))) (omega arith))
+      C.post_c w p _ λ q. kind_c (λ f. Cost f m) v (path_store_c r v us q) (λ n e. C.weak w (C.with_temp_c w n _ (λ t. C.put_c w (plain (store_temp t q)))) (omega arith)) (λ n e. C.weak w (C.with_name_c w n _ (λ k. C.put_c w (plain (store_var k q)))) (omega arith))
 
   unless_c : (r : ℕ) {f : Lowering} {k : ℕ} → Cost f k → Cost (unless r f) k
   unfolding unless
@@ -245,146 +179,97 @@ module _ (w : Weight) where
   unfolding L.variable L.each_of cost
   variable_c (node r o v us) ts g {k} h =
       let m = k + (own + pay v + costs us) in
-      name_c (λ f. Cost f m) 4 v (name_c (λ f. Cost f m) 5 v (C.failing_c w 7) (λ n e. C.weak w (C.with_temp_c w n _ (λ t. h (each_next_temp t))) (omega arith))) (λ n e. C.weak w (C.with_name_c w n _ (λ t. h (each_next_var t))) (omega arith))
+      kind_c (λ f. Cost f m) v (C.failing_c w 7) (λ n e. C.weak w (C.with_temp_c w n _ (λ t. h (each_next_temp t))) (omega arith)) (λ n e. C.weak w (C.with_name_c w n _ (λ t. h (each_next_var t))) (omega arith))
 
   loaded_c : (v : Payload) (p : Post) → Cost (L.loaded v p) (w.po + (w.i + pay v))
   unfolding L.loaded
   loaded_c v p =
       let m = w.i + pay v in
-      C.post_c w p _ λ q. name_c (λ f. Cost f m) 4 v (name_c (λ f. Cost f m) 5 v (name_c (λ f. Cost f m) 3 v (C.failing_c w 7) (λ n e. C.flagged_c w _ (C.weak w (C.with_name_c w n _ (λ k. C.put_c w (reading (load_ctx k q)))) (omega arith)))) (λ n e. C.weak w (C.with_temp_c w n _ (λ t. C.put_c w (reading (load_temp t q)))) (omega arith))) (λ n e. C.flagged_c w _ (C.weak w (C.with_name_c w n _ (λ k. C.put_c w (reading (load_var k q)))) (omega arith)))
-
-  fits_c : (x : Bool) {f : Lowering} {k : ℕ} → Cost f k → Cost (cond x f (failing 7)) k
-  fits_c true a = a
-  fits_c false a = C.failing_c w 7
-
-  just_c : {xs : List Lowerings} {ts : Forest} → Pays xs ts → {k : ℕ} {f : Lowerings → Lowering} → ((a : Lowerings) (t : Tree) → Whole a (cost t) → cost t + w.i + w.ar ≤ costs ts → Cost (f a) k) → Cost (just xs (failing 7) f) k
-  unfolding cost
-  just_c pnil i = C.failing_c w 7
-  just_c (pcons {a = x} {t = t} a pnil) i = i x t a (omega arith)
-  just_c (pcons a (pcons b z)) i = C.failing_c w 7
-
-  -- Loop, ForEach, assignment, ?: by their children
-  each_c : (p : Post) {xs : List Lowerings} {ts : Forest} → Pays xs ts → (l : Bool) → Cost (three xs (failing 7) λ a b c. L.variable ts λ i. b.expr l ⨾ eached i (c.expr true) ⨾ constant (fold p 0)) (own + costs ts)
-  unfolding cost
-  each_c p pnil l = C.failing_c w 7
-  each_c p (pcons a pnil) l = C.failing_c w 7
-  each_c p (pcons a (pcons b pnil)) l = C.failing_c w 7
-  each_c p (pcons {t = t} {ts = ts} a (pcons b (pcons c z))) l = C.weak w (variable_c t ts _ (λ i. b.expr l then_c C.eached_c w i (c.expr true) then_c C.constant_c w _)) (omega arith)
-
-  assign_c : (p : Post) (v : Payload) {xs : List Lowerings} {ts : Forest} → Pays xs ts → (l : Bool) → Cost (some xs (failing 7) λ a ys. L.target ts (one ys (constant (const_of v)) λ b. b.expr l) p) (own + costs ts)
-  unfolding cost
-  assign_c p v pnil l = C.failing_c w 7
-  assign_c p v (pcons {t = t} {ts = ts} a pnil) l = C.weak w (target_c t ts (C.constant_c w _) p) (omega arith)
-  assign_c p v (pcons {t = t} {ts = ts} a (pcons b z)) l = C.weak w (target_c t ts (b.expr l) p) (omega arith)
-
-  conditional_c : (p : Post) {xs : List Lowerings} {ts : Forest} → Pays xs ts → (l : Bool) → Cost (some xs (failing 7) λ a ys. some ys (failing 7) λ b zs. a.expr l ⨾ fork (guard jump_if_falsy) jump same (b.expr l) (one zs (constant 0) λ c. c.expr l) ⨾ post_instruction p) (own + costs ts)
-  unfolding cost
-  conditional_c p pnil l = C.failing_c w 7
-  conditional_c p (pcons a pnil) l = C.failing_c w 7
-  conditional_c p (pcons a (pcons b pnil)) l = C.weak w (a.expr l then_c C.fork_c w (guard jump_if_falsy) jump same (b.expr l) (C.constant_c w 0) then_c C.post_instr_c w (is_identity p) p) (omega arith)
-  conditional_c p (pcons a (pcons b (pcons c z))) l = C.weak w (a.expr l then_c C.fork_c w (guard jump_if_falsy) jump same (b.expr l) (c.expr l) then_c C.post_instr_c w (is_identity p) p) (omega arith)
-
-  compare_c : (o : ℕ) (p : Post) (v : Payload) {xs : List Lowerings} {ts : Forest} → Pays xs ts → (l : Bool)
-      → Cost (some xs (failing 7) λ a ys. with_post p λ q. some ys (a.expr l ⨾ with_const (const_of v) (λ k. put (plain (cmp_const o k q)))) λ b zs. pushed (a.expr l) (b.expr l ⨾ put (taking (cmp o q)))) (own + costs ts)
-  unfolding cost
-  compare_c o p v pnil l = C.failing_c w 7
-  compare_c o p v (pcons a pnil) l = C.weak w (C.post_c w p _ λ q. a.expr l then_c C.with_const_c w _ _ (λ k. C.put_c w (plain (cmp_const o k q)))) (omega arith)
-  compare_c o p v (pcons a (pcons b z)) l = C.weak w (C.post_c w p _ λ q. C.pushed_c w (a.expr l) (b.expr l then_c C.put_c w (taking (cmp o q)))) (omega arith)
+      C.post_c w p _ λ q. kind_c (λ f. Cost f m) v (name_c (λ f. Cost f m) 3 v (C.failing_c w 7) (λ n e. C.flagged_c w _ (C.weak w (C.with_name_c w n _ (λ k. C.put_c w (reading (load_ctx k q)))) (omega arith)))) (λ n e. C.weak w (C.with_temp_c w n _ (λ t. C.put_c w (reading (load_temp t q)))) (omega arith)) (λ n e. C.flagged_c w _ (C.weak w (C.with_name_c w n _ (λ k. C.put_c w (reading (load_var k q)))) (omega arith)))
 
   equal_const_c : (o : ℕ) (v : Payload) (q : ℕ) → Cost (equal_const o v q) (w.co + w.ha + w.i)
   unfolding equal_const
-  equal_const_c o v q = hash_c (λ f. Cost f (w.co + w.ha + w.i)) v (C.weak w (C.with_const_c w _ _ (λ k. C.put_c w (plain (eq_const o k q)))) (omega arith)) (λ h. C.flagged_c w _ (C.weak w (C.with_hash_c w h _ (λ k. C.put_c w (plain (eq_hash o k q)))) (omega arith)))
+  equal_const_c o v q = hash_one (λ f. Cost f (w.co + w.ha + w.i)) v (C.weak w (C.with_const_c w _ _ (λ k. C.put_c w (plain (eq_const o k q)))) (omega arith)) (λ h e. C.flagged_c w _ (C.weak w (C.with_hash_c w h _ (λ k. C.put_c w (plain (eq_hash o k q)))) (omega arith)))
 
-  equal_c : (o : ℕ) (p : Post) (v : Payload) {xs : List Lowerings} {ts : Forest} → Pays xs ts → (l : Bool)
-      → Cost (some xs (failing 7) λ a ys. with_post p λ q. some ys (a.expr l ⨾ equal_const o v q) λ b zs. pushed (a.expr l) (b.expr l ⨾ put (taking (eq o q)))) (own + pay v + costs ts)
-  unfolding cost
-  equal_c o p v pnil l = C.failing_c w 7
-  equal_c o p v (pcons a pnil) l = C.weak w (C.post_c w p _ λ q. a.expr l then_c equal_const_c o v q) (omega arith)
-  equal_c o p v (pcons a (pcons b z)) l = C.weak w (C.post_c w p _ λ q. C.pushed_c w (a.expr l) (b.expr l then_c C.put_c w (taking (eq o q)))) (omega arith)
-
-  add_c : (p : Post) {xs : List Lowerings} {ts : Forest} → Pays xs ts → (l : Bool) → Cost (some xs (failing 7) λ a ys. some ys (a.expr l ⨾ post_instruction p) λ b zs. pushed (a.expr l) (L.terms p b zs l)) (own + costs ts)
-  unfolding cost
-  add_c p pnil l = C.failing_c w 7
-  add_c p (pcons a pnil) l = C.weak w (a.expr l then_c C.post_instr_c w (is_identity p) p) (omega arith)
-  add_c p (pcons a (pcons b z)) l = C.weak w (C.pushed_c w (a.expr l) (addition_c p b z l)) (omega arith)
-
-  host_c : (f k : ℕ) (x : Bool) (p : Post) {xs : List Lowerings} {ts : Forest} → Pays xs ts → (l : Bool) → Cost (some xs (failing 7) λ a ys. cond x (L.host_math f k p a ys l) (failing 7)) (own + costs ts)
-  unfolding cost
-  host_c f k x p pnil l = C.failing_c w 7
-  host_c f k x p (pcons a z) l = C.weak w (fits_c x (hosted_c f k p a z l)) (omega arith)
-
-  logic_c : (j : Bool) (p : Post) {xs : List Lowerings} {ts : Forest} → Pays xs ts → (l : Bool) → Cost (some xs (failing 7) λ a ys. with_post p λ q. L.logic (cond j (and_step q) (or_step q)) (cond j (and_last q) (or_last q)) a ys l) (own + costs ts)
-  unfolding cost
-  logic_c j p pnil l = C.failing_c w 7
-  logic_c j p (pcons a z) l = C.weak w (C.post_c w p _ λ q. junction_c (cond j (and_step q) (or_step q)) (cond j (and_last q) (or_last q)) a z l) (omega arith)
-
+  -- each rule by its children, as far as it reads them
   module _ (S : Settings) where
     array_c : (x : Bool) (p : Post) (v : Payload) {xs : List Lowerings} {ts : Forest} → Pays xs ts → (l : Bool) → Cost (cond x (array_element p v xs l) (failing 5)) (own + pay v + costs ts)
-    unfolding array_element
-    array_c true p v {ts = ts} h l = just_c h λ a t k e. name_c (λ f. Cost f (own + pay v + costs ts)) 7 v (C.failing_c w 7) (λ n i. C.flagged_c w _ (C.weak w (k.expr l then_c C.with_name_c w n _ (λ k. C.post_c w p _ λ q. C.put_c w (reading (Instr.array_element k q)))) (omega arith)))
+    unfolding array_element cost
+    array_c true p v {ts = ts} (pcons a pnil) l = name_c (λ f. Cost f (own + pay v + costs ts)) 7 v (C.failing_c w 7) (λ n i. C.flagged_c w _ (C.weak w (a.expr l then_c C.with_name_c w n _ (λ k. C.post_c w p _ λ q. C.put_c w (reading (Instr.array_element k q)))) (omega arith)))
+    array_c true p v h l = C.failing_c w 7
     array_c false p v h l = C.failing_c w 5
 
-    plain_c : (r : R.Plain) (p : Post) (v : Payload) (ts : Forest) {xs : List Lowerings} → Pays xs ts → (l : Bool) → Cost (lower_plain S r p v ts xs l) (own + pay v + costs ts)
-    unfolding lower_plain
-    plain_c R.array p v ts h l = C.weak w (array_c S.from_host p v h l) (omega arith)
-    plain_c R.uses_arrays p v ts h l = C.failing_c w 5
-    plain_c R.uses_resources p v ts h l = C.failing_c w 6
-    plain_c R.float p v ts h l = C.weak w (C.constant_c w _) (omega arith)
-    plain_c R.string p v ts h l = C.flagged_c w _ (C.weak w (C.with_hash_c w _ _ (λ h. C.put_c w (plain (hash h)))) (omega arith))
-    plain_c R.resource p v ts h l = C.flagged_c w _ (C.weak w (C.with_hash_c w _ _ (λ h. C.put_c w (plain (resource h)))) (omega arith))
-    plain_c R.this p v ts h l = C.weak w (C.post_c w p _ (λ q. C.put_c w (plain (this q)))) (omega arith)
-    plain_c R.load p v ts h l = C.weak w (loaded_c v p) (omega arith)
-    plain_c R.query p v ts h l = query_c (λ f. Cost f (own + pay v + costs ts)) v (C.failing_c w 7) (λ i m. C.flagged_c w _ (C.weak w (query_cost i m p h) (omega arith)))
-    plain_c (R.compare o) p v ts h l = C.weak w (compare_c o p v h l) (omega arith)
-    plain_c (R.equal o) p v ts h l = C.weak w (equal_c o p v h l) (omega arith)
-    plain_c (R.logic j) p v ts h l = C.weak w (logic_c j p h l) (omega arith)
-    plain_c R.coalesce p v ts h l = two_c (λ f. Cost f (own + pay v + costs ts)) h (C.failing_c w 7) (λ a t j b u k e. C.weak w (C.fork_c w handler_push handler_pop handler+ (j.expr l) (k.expr l) then_c C.post_instr_c w (is_identity p) p) (omega arith))
-    plain_c R.conditional p v ts h l = C.weak w (conditional_c p h l) (omega arith)
-    plain_c R.statements p v ts h l = C.weak w (statements_c _ h l) (omega arith)
-    plain_c R.loop p v ts h l = C.flagged_c w _ (two_c (λ f. Cost f (own + pay v + costs ts)) h (C.failing_c w 7) (λ a t j b u k e. C.weak w (j.expr l then_c C.looped_c w (k.expr true) then_c C.constant_c w _) (omega arith)))
-    plain_c R.for_each p v ts h l = C.flagged_c w _ (C.weak w (each_c p h l) (omega arith))
-    plain_c R.break p v ts h l = C.weak w (C.jumps_c w to_cleanup l) (omega arith)
-    plain_c R.continue p v ts h l = C.weak w (C.jumps_c w to_check l) (omega arith)
-    plain_c R.assign p v ts h l = C.weak w (assign_c p v h l) (omega arith)
-    plain_c R.bracket p v ts h l = one_c (λ f. Cost f (own + pay v + costs ts)) h (C.failing_c w 7) (λ a t k e. C.weak w (k.expr l) (omega arith))
-    plain_c (R.unary u) p v ts h l = one_c (λ f. Cost f (own + pay v + costs ts)) h (C.failing_c w 7) (λ a t k e. C.weak w (k.expr l then_c C.post_c w p _ (λ q. C.put_c w (plain (cond u (negate q) (not q))))) (omega arith))
-    plain_c R.add p v ts h l = C.weak w (add_c p h l) (omega arith)
-    plain_c R.mul p v ts h l = two_c (λ f. Cost f (own + pay v + costs ts)) h (C.failing_c w 7) (λ a t j b u k e. C.weak w (C.pushed_c w (j.expr l) (k.expr l then_c C.post_c w p _ (λ q. C.put_c w (taking (mul q))))) (omega arith))
-    plain_c R.div p v ts h l = two_c (λ f. Cost f (own + pay v + costs ts)) h (C.failing_c w 7) (λ a t j b u k e. C.weak w (k.expr l then_c C.guarded_c w (div_guard S.absolute) operand+ (j.expr l then_c C.post_c w p _ (λ q. C.put_c w (taking (div q))))) (omega arith))
-    plain_c (R.host_math u) p v ts {xs} h l = C.flagged_c w _ (math_c (λ f. Cost f (own + pay v + costs ts)) v (C.failing_c w 7) (λ f. C.weak w (host_c f (length xs) (leb (length xs) 255) p h l) (omega arith)))
-    plain_c R.generic p v ts h l = C.weak w (C.constant_c w _) (omega arith)
-    plain_c R.refused p v ts h l = C.failing_c w 7
+    plain_c : (r : R.Plain) (p : Post) (v : Payload) {xs : List Lowerings} {ts : Forest} → Pays xs ts → (l : Bool) → Cost (lower_plain S r p v ts xs l) (own + pay v + costs ts)
+    unfolding lower_plain cost
+    plain_c R.array p v h l = array_c S.from_host p v h l
+    plain_c R.uses_arrays p v h l = C.failing_c w 5
+    plain_c R.uses_resources p v h l = C.failing_c w 6
+    plain_c R.float p v h l = C.weak w (C.constant_c w _) (omega arith)
+    plain_c R.string p v h l = C.flagged_c w _ (C.weak w (C.with_hash_c w _ _ (λ h. C.put_c w (plain (hash h)))) (omega arith))
+    plain_c R.resource p v h l = C.flagged_c w _ (C.weak w (C.with_hash_c w _ _ (λ h. C.put_c w (plain (resource h)))) (omega arith))
+    plain_c R.this p v h l = C.weak w (C.post_c w p _ (λ q. C.put_c w (plain (this q)))) (omega arith)
+    plain_c R.load p v h l = C.weak w (loaded_c v p) (omega arith)
+    plain_c R.query p v {ts = ts} h l = query_one (λ f. Cost f (own + pay v + costs ts)) v (C.failing_c w 7) (λ i m e. C.flagged_c w _ (C.weak w (query_cost i m p h) (omega arith)))
+    plain_c (R.compare o) p v (pcons a pnil) l = C.weak w (C.post_c w p _ λ q. a.expr l then_c C.with_const_c w _ _ (λ k. C.put_c w (plain (cmp_const o k q)))) (omega arith)
+    plain_c (R.compare o) p v (pcons a (pcons b z)) l = C.weak w (C.post_c w p _ λ q. C.pushed_c w (a.expr l) (b.expr l then_c C.put_c w (taking (cmp o q)))) (omega arith)
+    plain_c (R.equal o) p v (pcons a pnil) l = C.weak w (C.post_c w p _ λ q. a.expr l then_c equal_const_c o v q) (omega arith)
+    plain_c (R.equal o) p v (pcons a (pcons b z)) l = C.weak w (C.post_c w p _ λ q. C.pushed_c w (a.expr l) (b.expr l then_c C.put_c w (taking (eq o q)))) (omega arith)
+    plain_c (R.logic j) p v (pcons a z) l = C.weak w (C.post_c w p _ λ q. junction_c (cond j (and_step q) (or_step q)) (cond j (and_last q) (or_last q)) a z l) (omega arith)
+    plain_c R.coalesce p v (pcons a (pcons b z)) l = C.weak w (C.fork_c w handler_push handler_pop handler+ (a.expr l) (b.expr l) then_c C.post_instr_c w (is_identity p) p) (omega arith)
+    plain_c R.conditional p v (pcons a (pcons b pnil)) l = C.weak w (a.expr l then_c C.fork_c w (guard jump_if_falsy) jump same (b.expr l) (C.constant_c w 0) then_c C.post_instr_c w (is_identity p) p) (omega arith)
+    plain_c R.conditional p v (pcons a (pcons b (pcons c z))) l = C.weak w (a.expr l then_c C.fork_c w (guard jump_if_falsy) jump same (b.expr l) (c.expr l) then_c C.post_instr_c w (is_identity p) p) (omega arith)
+    plain_c R.statements p v h l = C.weak w (statements_c _ h l) (omega arith)
+    plain_c R.loop p v (pcons a (pcons b z)) l = C.flagged_c w _ (C.weak w (a.expr l then_c C.looped_c w (b.expr true) then_c C.constant_c w _) (omega arith))
+    plain_c R.loop p v h l = C.flagged_c w _ (C.failing_c w 7)
+    plain_c R.for_each p v (pcons {t = t} {ts = ts} a (pcons b (pcons c z))) l = C.flagged_c w _ (C.weak w (variable_c t ts _ (λ i. b.expr l then_c C.eached_c w i (c.expr true) then_c C.constant_c w _)) (omega arith))
+    plain_c R.for_each p v h l = C.flagged_c w _ (C.failing_c w 7)
+    plain_c R.break p v h l = C.weak w (C.jumps_c w to_cleanup l) (omega arith)
+    plain_c R.continue p v h l = C.weak w (C.jumps_c w to_check l) (omega arith)
+    plain_c R.assign p v (pcons {t = t} {ts = ts} a pnil) l = C.weak w (target_c t ts (C.constant_c w _) p) (omega arith)
+    plain_c R.assign p v (pcons {t = t} {ts = ts} a (pcons b z)) l = C.weak w (target_c t ts (b.expr l) p) (omega arith)
+    plain_c R.bracket p v (pcons a z) l = C.weak w (a.expr l) (omega arith)
+    plain_c (R.unary u) p v (pcons a z) l = C.weak w (a.expr l then_c C.post_c w p _ (λ q. C.put_c w (plain (cond u (negate q) (not q))))) (omega arith)
+    plain_c R.add p v (pcons a pnil) l = C.weak w (a.expr l then_c C.post_instr_c w (is_identity p) p) (omega arith)
+    plain_c R.add p v (pcons a (pcons b z)) l = C.weak w (C.pushed_c w (a.expr l) (addition_c p b z l)) (omega arith)
+    plain_c R.mul p v (pcons a (pcons b z)) l = C.weak w (C.pushed_c w (a.expr l) (b.expr l then_c C.post_c w p _ (λ q. C.put_c w (taking (mul q))))) (omega arith)
+    plain_c R.div p v (pcons a (pcons b z)) l = C.weak w (b.expr l then_c C.guarded_c w (div_guard S.absolute) operand+ (a.expr l then_c C.post_c w p _ (λ q. C.put_c w (taking (div q))))) (omega arith)
+    plain_c (R.host_math u) p v pnil l = C.flagged_c w _ (math_one (λ f. Cost f (own + pay v + costs nil)) v (C.failing_c w 7) (λ f e. C.failing_c w 7))
+    plain_c (R.host_math u) p v {xs} {ts} (pcons a z) l = C.flagged_c w _ (math_one (λ f. Cost f (own + pay v + costs ts)) v (C.failing_c w 7) (λ f e. either_one (λ f. Cost f (own + pay v + costs ts)) (leb (length xs) 255) (C.weak w (hosted_c f (length xs) p a z l) (omega arith)) (C.failing_c w 7)))
+    plain_c R.generic p v h l = C.weak w (C.constant_c w _) (omega arith)
+    plain_c _ p v h l = C.failing_c w 7
 
     chained_c : (p : Post) (v : Payload) {xs : List Lowerings} {ts : Forest} → Pays xs ts → (n : Name) (l : Bool) → Cost (L.chained p v xs n l) (own + pay v + costs ts)
-    unfolding L.chained
-    chained_c p v {ts = ts} h n l = one_c (λ f. Cost f (own + pay v + costs ts)) h (C.failing_c w 7) (λ a t k e. C.weak w (k.base n l then_c name_c (λ f. Cost f (w.po + w.i + pay v)) 6 v (C.failing_c w 7) (λ m i. C.weak w (C.with_member_c w (record { own = m; last = n }) _ (λ x. C.post_c w p _ λ q. C.put_c w (reading (member x q)))) (omega arith))) (omega arith))
+    unfolding L.chained cost
+    chained_c p v pnil n l = C.failing_c w 7
+    chained_c p v (pcons a z) n l = C.weak w (a.base n l then_c name_c (λ f. Cost f (w.po + w.i + pay v)) 6 v (C.failing_c w 7) (λ m i. C.weak w (C.with_member_c w (record { own = m; last = n }) _ (λ x. C.post_c w p _ λ q. C.put_c w (reading (member x q)))) (omega arith))) (omega arith)
 
     member_read_c : (p : Post) (v : Payload) {xs : List Lowerings} {ts : Forest} → Pays xs ts → (l : Bool) → Cost (member_read p v xs l) (own + pay v + costs ts)
     unfolding member_read
     member_read_c p v {ts = ts} h l = C.flagged_c w _ (name_c (λ f. Cost f (own + pay v + costs ts)) 6 v (C.failing_c w 7) (λ n e. chained_c p v h n l))
 
     pointer_c : (p : Post) (v : Payload) {xs : List Lowerings} {ts : Forest} → Pays xs ts → (l : Bool) → Cost (pointer p xs l) (own + pay v + costs ts)
-    unfolding pointer
-    pointer_c p v {ts = ts} h l = C.flagged_c w _ (two_c (λ f. Cost f (own + pay v + costs ts)) h (C.failing_c w 7) (λ a t j b u k e. C.weak w (C.post_c w p _ (λ q. j.expr l then_c C.guarded_c w (pointer_enter q) same (k.expr l then_c C.put_c w (plain (pointer_leave q))))) (omega arith)))
+    unfolding pointer cost
+    pointer_c p v (pcons a (pcons b z)) l = C.flagged_c w _ (C.weak w (C.post_c w p _ (λ q. a.expr l then_c C.guarded_c w (pointer_enter q) same (b.expr l then_c C.put_c w (plain (pointer_leave q))))) (omega arith))
+    pointer_c p v h l = C.flagged_c w _ (C.failing_c w 7)
 
     return_c : (p : Post) (v : Payload) {xs : List Lowerings} {ts : Forest} → Pays xs ts → (l : Bool) → Cost (returning p xs l) (own + pay v + costs ts)
     unfolding cost returning
     return_c p v pnil l = C.weak w (C.constant_c w 0 then_c C.post_c w p _ (λ q. C.put_c w (return q))) (omega arith)
     return_c p v (pcons a z) l = C.weak w (a.expr l then_c C.post_c w p _ (λ q. C.put_c w (return q))) (omega arith)
 
-    whole : (r : Rule) (p : Post) (v : Payload) (ts : Forest) {xs : List Lowerings} → Pays xs ts → Whole (lower_rule S r p v ts xs) (own + pay v + costs ts)
+    whole : (r : Rule) (p : Post) (v : Payload) {xs : List Lowerings} {ts : Forest} → Pays xs ts → Whole (lower_rule S r p v ts xs) (own + pay v + costs ts)
     unfolding lower_rule
-    whole R.return p v ts h = record { expr = λ l. C.weak w (C.constant_c w _) (omega arith); base = λ n l. C.weak w (C.constant_c w _) (omega arith); statement = return_c p v h }
-    whole R.member p v ts h = record { expr = λ l. C.weak w (member_read_c p v h l) (omega arith); statement = λ l. C.weak w (member_read_c p v h l) (omega arith); base = λ n l. C.weak w (chained_c p v h n l) (omega arith) }
-    whole R.entity p v ts h = record { expr = λ l. C.weak w (loaded_c v p) (omega arith); statement = λ l. C.weak w (loaded_c v p) (omega arith); base = λ n l. C.weak w (loaded_c v p) (omega arith) }
-    whole R.pointer p v ts h = record { expr = pointer_c p v h; statement = pointer_c p v h; base = λ n. pointer_c p v h }
-    whole (R.plain r) p v ts h = record { expr = plain_c r p v ts h; statement = plain_c r p v ts h; base = λ n. plain_c r p v ts h }
+    whole R.return p v h = record { expr = λ l. C.weak w (C.constant_c w _) (omega arith); base = λ n l. C.weak w (C.constant_c w _) (omega arith); statement = return_c p v h }
+    whole R.member p v h = record { expr = member_read_c p v h; statement = member_read_c p v h; base = chained_c p v h }
+    whole R.entity p v h = record { expr = λ l. C.weak w (loaded_c v p) (omega arith); statement = λ l. C.weak w (loaded_c v p) (omega arith); base = λ n l. C.weak w (loaded_c v p) (omega arith) }
+    whole R.pointer p v h = record { expr = pointer_c p v h; statement = pointer_c p v h; base = λ n. pointer_c p v h }
+    whole (R.plain r) p v h = record { expr = plain_c r p v h; statement = plain_c r p v h; base = λ n. plain_c r p v h }
 
     mutual
       unfolding lower cost
 
       pub tree_cost : (t : Tree) → Whole (lower S t) (cost t)
-      tree_cost (node op p v ts) = whole (rule_at op) p v ts (trees_cost ts)
+      tree_cost (node op p v ts) = whole (rule_at op) p v (trees_cost ts)
 
       pub trees_cost : (ts : Forest) → Pays (lowers S ts) ts
       trees_cost nil = pnil

@@ -1,11 +1,11 @@
 -- A tree whose own fields fit, and what the rules read in its payloads. Assumes nothing.
-use mathlib.Core.Path.{◌≡◌}
+use mathlib.Core.Path.{subst}
 use Prim.Native.Nat.{ℕ}
 use native.Mathlib.Omega.{arith}
-use native.Mathlib.Decide.{ℕ_discrete}
 use Rattle.ast.specs.Tree.{Name, Payload, p_none, p_float, p_hash, p_math, p_name, p_query, Tree, node, Forest, nil, cons}
 use Rattle.program.specs.Fits.{Below, FitPost}
 use Rattle.semantics.proofs.Ranges.{FitText}
+use Rattle.semantics.proofs.Relations.{name_one, hash_one, math_one, query_one}
 use Rattle.semantics.specs.Payloads.{cases, as_name, as_hash, as_math, as_query, float_of, const_of, string_of, resource_of}
 
 -- a tree's own fields fit
@@ -28,53 +28,25 @@ unfoldable mutual
 -- what is read in a payload fits
 module _ {X : Type 0} (R : X → Type 0) where
   pub name_r : (k : ℕ) (v : Payload) → PayloadFits v → {d : X} {f : Name → X} → R d → ((n : Name) → FitText n → R (f n)) → R (as_name k v d f)
-  unfolding as_name cases
-  name_r k p_none q h i = h
-  name_r k (p_float v) q h i = h
-  name_r k (p_hash v) q h i = h
-  name_r k (p_math v) q h i = h
-  name_r k (p_query j m) q h i = h
-  name_r k (p_name j n) q {d} {f} h i = go (ℕ_discrete j k)
-    where
-      go : (c : Dec (j ≡ k)) → R (elim c [ yes p ↦ f n | no p ↦ d ])
-      go (yes p) = i n q
-      go (no p) = h
+  name_r k v q h i = name_one R k v h (λ j n e. i n (subst PayloadFits e q))
+
+  -- by the kind of a variable's name
+  pub kind_r : (v : Payload) → PayloadFits v → {d : X} {f g : Name → X} → R d → ((n : Name) → FitText n → R (f n)) → ((n : Name) → FitText n → R (g n)) → R (as_name 4 v (as_name 5 v d f) g)
+  kind_r v q o t e = name_r 4 v q (name_r 5 v q o t) e
 
   pub hash_r : (v : Payload) → PayloadFits v → {d : X} {f : ℕ → X} → R d → ((n : ℕ) → Below 8 n → R (f n)) → R (as_hash v d f)
-  unfolding as_hash cases
-  hash_r p_none q h i = h
-  hash_r (p_float v) q h i = h
-  hash_r (p_hash v) q h i = i v q
-  hash_r (p_math v) q h i = h
-  hash_r (p_query j m) q h i = h
-  hash_r (p_name j n) q h i = h
+  hash_r v q h i = hash_one R v h (λ n e. i n (subst PayloadFits e q))
 
   pub math_r : (v : Payload) → PayloadFits v → {d : X} {f : ℕ → X} → R d → ((n : ℕ) → Below 2 n → R (f n)) → R (as_math v d f)
-  unfolding as_math cases
-  math_r p_none q h i = h
-  math_r (p_float v) q h i = h
-  math_r (p_hash v) q h i = h
-  math_r (p_math v) q h i = i v q
-  math_r (p_query j m) q h i = h
-  math_r (p_name j n) q h i = h
+  math_r v q h i = math_one R v h (λ n e. i n (subst PayloadFits e q))
 
   pub asked_r : (v : Payload) → PayloadFits v → {d : X} {f : ℕ → ℕ → X} → R d → ((j m : ℕ) → Below 2 j → Below 1 m → R (f j m)) → R (as_query v d f)
-  unfolding as_query cases
-  asked_r p_none q h i = h
-  asked_r (p_float v) q h i = h
-  asked_r (p_hash v) q h i = h
-  asked_r (p_math v) q h i = h
-  asked_r (p_query j m) q h i = i j m q.0 q.1
-  asked_r (p_name j n) q h i = h
+  asked_r v q h i = query_one R v h (λ j m e. let p = subst PayloadFits e q in i j m p.0 p.1)
 
 pub float_fits : (v : Payload) → PayloadFits v → Below 4 (float_of v)
 unfolding float_of cases
-float_fits p_none h = omega arith
 float_fits (p_float v) h = h
-float_fits (p_hash v) h = omega arith
-float_fits (p_math v) h = omega arith
-float_fits (p_query i m) h = omega arith
-float_fits (p_name j n) h = omega arith
+float_fits _ h = omega arith
 
 pub const_fits : (v : Payload) → PayloadFits v → Below 4 (const_of v)
 unfolding const_of

@@ -4,14 +4,14 @@ use mathlib.Core.List.{List, [], ◌∷◌, map}
 use Prim.Native.Nat.{ℕ, ◌≤◌, ◌+◌, ◌*◌}
 use native.Mathlib.Omega.{arith}
 use lib.ListN.{length}
-use Rattle.ast.specs.Tree.{Payload, p_none, p_float, p_hash, p_math, p_name, p_query, Tree}
+use Rattle.ast.specs.Tree.{Payload, p_none, Tree}
 use Rattle.program.specs.Program.{MemberStore}
 use Rattle.program.specs.Fits.{Every}
 use Rattle.program.specs.Image.{image}
 use Rattle.program.proofs.Length.{name_bytes, member_bytes, store_bytes, call_bytes, entry_bytes, image_length}
-use Rattle.semantics.proofs.Costs.{Weight, sum, weigh_map, member_weight, stored, asked, sz}
-use Rattle.semantics.proofs.CostedRules.{pay, own, sized}
-use Rattle.semantics.proofs.Sizes.{held, bytes, mass, all_paid, scaled, code_weigh}
+use Rattle.semantics.proofs.Costs.{Weight, sum, weigh_map, member_weight, store_weight, call_weight, sz}
+use Rattle.semantics.proofs.CostedRules.{pay, own}
+use Rattle.semantics.proofs.Sizes.{held, bytes, mass, weighed, scaled, code_weigh}
 use Rattle.semantics.proofs.Ranges.{FitRead}
 use Rattle.semantics.specs.Link.{offsets_of, place_call, member_entry, lowered, link, program}
 use Rattle.semantics.specs.Positions.{◌⊕◌, past}
@@ -27,11 +27,10 @@ unfolding member_entry
 members_take [] q = omega arith
 members_take (x ∷ xs) q = let h = members_take xs q.1 in let i = q.0.last.short in omega arith
 
-stores_take : (xs : List MemberStore) → sum store_bytes xs ≡ stored in_bytes xs
-stores_take [] = refl
-stores_take (x ∷ xs) = let h = stores_take xs in omega arith
+stores_take : (xs : List MemberStore) → sum store_bytes xs ≡ sum (store_weight in_bytes) xs
+stores_take xs = refl
 
-calls_take : (b : ℕ) (xs : List CallInfo) → sum call_bytes (map (place_call b) xs) ≡ asked in_bytes xs
+calls_take : (b : ℕ) (xs : List CallInfo) → sum call_bytes (map (place_call b) xs) ≡ sum (call_weight in_bytes) xs
 unfolding place_call
 calls_take b [] = refl
 calls_take b (x ∷ xs) = let h = calls_take b xs in let i = weigh_map 4 (b ⊕◌) (offsets_of x.offsets) in omega arith
@@ -43,11 +42,7 @@ paid v = own in_bytes + pay in_bytes v + 12
 paid_held : (v : Payload) → 25 * paid v ≤ 347 * held v
 unfolding pay
 paid_held p_none = omega arith
-paid_held (p_float v) = omega arith
-paid_held (p_hash v) = omega arith
-paid_held (p_math v) = omega arith
-paid_held (p_query i m) = omega arith
-paid_held (p_name k n) = omega arith
+paid_held _ = omega arith
 
 module _ (S : Settings) (t : Tree) (short : Every FitRead (lowered S t).state.pools.members) where
   entries_paid : entry_bytes (program S t) ≤ mass paid t + 4
@@ -55,8 +50,7 @@ module _ (S : Settings) (t : Tree) (short : Every FitRead (lowered S t).state.po
   entries_paid =
       let x = lowered S t in
       let s = x.state.pools in
-      let h = sized in_bytes S t in
-      let i = all_paid in_bytes paid (λ v. omega arith) t in
+      let h = weighed in_bytes paid (λ v. omega arith) S t in
       let c = code_weigh in_bytes x in
       let m = members_take s.members short in
       let o = stores_take s.stores in

@@ -1,7 +1,7 @@
 -- The linked program has what the lowering gathered, so the machine over it does what the walk does. Assumes nothing.
 use mathlib.Core.Path.{◌≡◌, refl, ap, sym, ◌∙◌}
 use mathlib.Core.Bool.{Bool, false}
-use mathlib.Core.List.{List, [], ◌∷◌, ◌++◌, map, append_assoc}
+use mathlib.Core.List.{List, [], ◌∷◌, ◌++◌, map, map-map, append_assoc}
 use mathlib.Core.Option.{Option, none}
 use Prim.Native.Nat.{ℕ, suc}
 use native.Mathlib.Omega.{arith}
@@ -12,7 +12,7 @@ use Rattle.numeric.specs.Post.{Post, identity}
 use Rattle.program.specs.Instruction.{Instruction, halt, end}
 use Rattle.program.specs.Program.{name_at, MemberEntry, root_other, QueryCall, Program, code_at, const_at, post_at, hash_at, slot_at, member_at, store_at, call_at}
 use Rattle.semantics.proofs.Agreement.{tree_s}
-use Rattle.semantics.proofs.Positions.{past_map, map_map, in_list, whole_list, holds_map, shifted, plus_past, length_past}
+use Rattle.semantics.proofs.Positions.{past_map, in_list, whole_list, holds_map, shifted, plus_past, length_past}
 use Rattle.semantics.proofs.Simulation.{has_handler, at, Ends, After, Has, SegsOk, StartsOk, CallsOk, Ext, ends_at, has_left, has_right}
 use Rattle.semantics.specs.Link.{relocate, settle, place_segments, offsets_of, place_call, member_entry, lowered, link, program}
 use Rattle.semantics.specs.Lowering.{lower}
@@ -22,7 +22,7 @@ use Rattle.semantics.specs.Positions.{◌⊕◌, past}
 use Rattle.ast.specs.Header.{Settings}
 use Rattle.semantics.specs.Run.{nothing_open, Result, begin}
 use Rattle.semantics.specs.State.{Item, instr, CallInfo, empty}
-use Rattle.semantics.specs.Walk.{Completion, normal, missing, broke, again, returned, halted, out, inside, finish, walked, walk}
+use Rattle.semantics.specs.Walk.{Completion, normal, missing, broke, again, inside, finish, walked, walk}
 
 module _ (P : Program) (E : ℕ) (r : Result) where
   segs_ok : (o : ℕ) (cs : List (List Item)) (before : List Instruction) → P.code ≡ before ++ place_segments cs (E ⊕ o) → length before ≡ E ⊕ o → SegsOk P E r o cs
@@ -55,9 +55,7 @@ final P E n r h (normal w) q = ends_at P E r (0 ⊕ n) h q
 final P E n r h (missing w) q = tt
 final P E n r h (broke w) q = tt
 final P E n r h (again w) q = tt
-final P E n r h (returned w) q = q
-final P E n r h (halted w) q = q
-final P E n r h (out w) q = q
+final P E n r h _ q = q
 
 linked : (x : Lowered) (r : Result) → x.state.refusal ≡ 0 → Ext (link x) (past x.code 0) r x.state
 unfolding link code_at const_at post_at hash_at name_at slot_at member_at store_at member_entry
@@ -72,7 +70,7 @@ linked x r h =
       hhashes = holds_map itself _ 0 s.hashes (whole_list 0 s.hashes);
       hnames = holds_map hash_key _ 0 s.names (whole_list (record { hash = 0; text = [] }) s.names);
       htemps = holds_map itself _ 0 s.temps (whole_list 0 s.temps);
-      hmembers = rw (map_map (λ (m : MemberEntry). m.hash) member_entry s.members) at (holds_map (λ (m : MemberEntry). m.hash) _ 0 (map member_entry s.members) (whole_list (record { hash = 0; text = []; report = [] }) (map member_entry s.members)));
+      hmembers = rw (map-map (λ (m : MemberEntry). m.hash) member_entry s.members) at (holds_map (λ (m : MemberEntry). m.hash) _ 0 (map member_entry s.members) (whole_list (record { hash = 0; text = []; report = [] }) (map member_entry s.members)));
       hstores = whole_list (record { root = root_other; path = [] }) s.stores;
       hcalls = calls_ok (link x) E r 0 s.calls [] refl refl;
       hsegs = segs_ok (link x) E r 0 s.segments (map (settle 0 0 0) x.code) refl (length_past [] (map (settle 0 0 0) x.code) 0 refl ∙ past_map (settle 0 0 0) x.code 0);

@@ -12,7 +12,7 @@ module _ {A : Type 0} where
   past_append [] ys n = refl
   past_append (x ∷ xs) ys n = past_append xs ys (suc n)
 
-  past_plus : (xs : List A) (n : ℕ) → past xs n ≡ n + length xs
+  pub past_plus : (xs : List A) (n : ℕ) → past xs n ≡ n + length xs
   past_plus [] n = omega arith
   past_plus (x ∷ xs) n = let h = past_plus xs (suc n) in omega arith
 
@@ -36,34 +36,25 @@ pub past_map : {A B : Type 0} (f : A → B) (xs : List A) (n : ℕ) → past (ma
 past_map f [] n = refl
 past_map f (x ∷ xs) n = past_map f xs (suc n)
 
-pub map_append : {A B : Type 0} (f : A → B) (xs ys : List A) → map f (xs ++ ys) ≡ map f xs ++ map f ys
-map_append f [] ys = refl
-map_append f (x ∷ xs) ys = ap (f x ∷◌) (map_append f xs ys)
+-- a pool: what holds of an empty one, of one whose first entry has the key, and further on of one more, holds of every one
+module _ {A K : Type 0} (key : A → K) (dec : (a b : K) → Dec (a ≡ b)) (v : A) (R : ℕ → List A → List A → ℕ → Type 0) (none : (n : ℕ) → R n [] (v ∷ []) n)
+    (found : (n : ℕ) (x : A) (xs : List A) → key x ≡ key v → R n (x ∷ xs) (x ∷ xs) n) (further : (n : ℕ) (x : A) (xs ys : List A) (k : ℕ) → R (suc n) xs ys k → R n (x ∷ xs) (x ∷ ys) k) where
+  pub interning : (n : ℕ) (xs : List A) → R n xs (intern key dec v xs) (slot key dec v n xs)
+  unfolding intern slot
+  interning n [] = none n
+  interning n (x ∷ xs) = go (dec (key x) (key v)) (interning (suc n) xs)
+    where
+      go : (d : Dec (key x ≡ key v)) → R (suc n) xs (intern key dec v xs) (slot key dec v (suc n) xs) → R n (x ∷ xs) (elim d [ yes p ↦ x ∷ xs | no h ↦ x ∷ intern key dec v xs ]) (elim d [ yes p ↦ n | no h ↦ slot key dec v (suc n) xs ])
+      go (yes p) i = found n x xs p
+      go (no p) i = further n x xs _ _ i
 
--- a pool's entries
-module _ {A K : Type 0} (key : A → K) (dec : (a b : K) → Dec (a ≡ b)) where
-  -- what the program shows of an entry hangs on its key alone
-  module _ {B : Type 0} (shown : A → B) (f : ℕ → B) where
-    pub intern_grows : (v : A) (n : ℕ) (xs : List A) → Holds f n (map shown (intern key dec v xs)) → Holds f n (map shown xs)
-    unfolding intern
-    intern_grows v n [] h = tt
-    intern_grows v n (x ∷ xs) h = go (dec (key x) (key v)) (λ k. intern_grows v (suc n) xs k) h
-      where
-        go : (d : Dec (key x ≡ key v)) → (Holds f (suc n) (map shown (intern key dec v xs)) → Holds f (suc n) (map shown xs))
-            → Holds f n (map shown (elim d [ yes p ↦ x ∷ xs | no h ↦ x ∷ intern key dec v xs ])) → Holds f n (map shown (x ∷ xs))
-        go (yes p) ih k = k
-        go (no q) ih k = (k.0, ih k.1)
+-- what the program shows of an entry hangs on its key alone
+module _ {A B K : Type 0} (key : A → K) (dec : (a b : K) → Dec (a ≡ b)) (shown : A → B) (f : ℕ → B) where
+  pub intern_grows : (v : A) (n : ℕ) (xs : List A) → Holds f n (map shown (intern key dec v xs)) → Holds f n (map shown xs)
+  intern_grows v = interning key dec v (λ n xs ys k. Holds f n (map shown ys) → Holds f n (map shown xs)) (λ n h. tt) (λ n x xs p h. h) (λ n x xs ys k i h. (h.0, i h.1))
 
-    pub intern_has : ((a b : A) → key a ≡ key b → shown a ≡ shown b) → (v : A) (n : ℕ) (xs : List A) → Holds f n (map shown (intern key dec v xs)) → f (slot key dec v n xs) ≡ shown v
-    unfolding intern slot
-    intern_has e v n [] h = h.0
-    intern_has e v n (x ∷ xs) h = go (dec (key x) (key v)) (λ k. intern_has e v (suc n) xs k) h
-      where
-        go : (d : Dec (key x ≡ key v)) → (Holds f (suc n) (map shown (intern key dec v xs)) → f (slot key dec v (suc n) xs) ≡ shown v)
-            → Holds f n (map shown (elim d [ yes p ↦ x ∷ xs | no h ↦ x ∷ intern key dec v xs ]))
-            → f (elim d [ yes p ↦ n | no h ↦ slot key dec v (suc n) xs ]) ≡ shown v
-        go (yes p) ih k = k.0 ∙ e x v p
-        go (no q) ih k = ih k.1
+  pub intern_has : ((a b : A) → key a ≡ key b → shown a ≡ shown b) → (v : A) (n : ℕ) (xs : List A) → Holds f n (map shown (intern key dec v xs)) → f (slot key dec v n xs) ≡ shown v
+  intern_has e v = interning key dec v (λ n xs ys k. Holds f n (map shown ys) → f k ≡ shown v) (λ n h. h.0) (λ n x xs p h. h.0 ∙ e x v p) (λ n x xs ys k i h. i h.1)
 
 -- lists by index
 module _ {A : Type 0} where
@@ -87,9 +78,4 @@ module _ {A : Type 0} where
   plus_past b (x ∷ xs) n = plus_past b xs (suc n)
 
   pub length_past : (before xs : List A) (n : ℕ) → length before ≡ n → length (before ++ xs) ≡ past xs n
-  length_past before [] n h = rw append-nil h
-  length_past before (x ∷ xs) n h = rw append_snoc at (length_past (before ++ (x ∷ [])) xs (suc n) (simp length-append (omega arith)))
-
-pub map_map : {A B C : Type 0} (g : B → C) (f : A → B) (xs : List A) → map g (map f xs) ≡ map (λ x. g (f x)) xs
-map_map g f [] = refl
-map_map g f (x ∷ xs) = ap (g (f x) ∷◌) (map_map g f xs)
+  length_past before xs n h = simp length-append (let p = past_plus xs n in omega arith)

@@ -23,52 +23,39 @@ fits_jump t h b i = let e = shift b t in omega arith
 
 module _ {is : List ℕ} where
   pub guarded_r : (g : Guard) (up : Counts → Counts) → Up up → (Under is → Aims (guard g)) → {f : Lowering} → Ranged is f → Ranged is (guarded g up f)
-  guarded_r g up k m {f} a = flushed (record {
-    grows = λ c n s. let h = a.grows (up c) false (suc n) (raise (up c) s) in omega arith;
-    deep = λ o c n s r d.
-        let h = a.grows (up c) false (suc n) (raise (up c) s) in
-        let j = k.by c in
-        a.deep o (up c) false (suc n) (raise (up c) s) (omega arith) (omega arith);
-    ok = λ u c n s l q.
-        let x = f (up c) false (suc n) (raise (up c) s) in
-        let e = past_weigh x.code (suc n) in
-        let v = a.ok u (up c) false (suc n) (raise (up c) s) (omega arith) q in
-        record { good = v.good; fits = (m u (past x.code (suc n)) (omega arith), v.fits) };
-  })
+  guarded_r g up k m {f} a = flushed λ c n s.
+      let t = raise (up c) s in
+      let x = f (up c) false (suc n) t in
+      let h = a.by (up c) false (suc n) t in
+      let j = k.by c in
+      let e = past_weigh x.code (suc n) in
+      record {
+        grows = omega arith;
+        deep = λ o r d. h.deep o (omega arith) (omega arith);
+        ok = λ u l q. let v = h.ok u (omega arith) q in record { good = v.good; fits = (m u (past x.code (suc n)) (omega arith), v.fits) };
+      }
 
   pub fork_r : (i j : ℕ → Instruction) (up : Counts → Counts) → Up up → Aims i → Aims j → {f g : Lowering} → Ranged is f → Ranged is g → Ranged is (fork i j up f g)
-  fork_r i j up k fi fj {f} {g} a b = flushed (record {
-    grows = λ c n s.
-        let t = raise (up c) s in
-        let x = f (up c) false (suc n) t in
-        let p = past x.code (suc n) in
-        let y = g c false (suc p) x.state in
-        let h = a.grows (up c) false (suc n) t in
-        let o = b.grows c false (suc p) x.state in
-        let w = weigh_append 1 x.code (instr (j (past y.code (suc p))) ∷ y.code) in omega arith;
-    deep = λ m c n s r d.
-        let t = raise (up c) s in
-        let x = f (up c) false (suc n) t in
-        let p = past x.code (suc n) in
-        let y = g c false (suc p) x.state in
-        let h = a.grows (up c) false (suc n) t in
-        let o = b.grows c false (suc p) x.state in
-        let w = weigh_append 1 x.code (instr (j (past y.code (suc p))) ∷ y.code) in
-        let q = k.by c in
-        b.deep m c false (suc p) x.state (omega arith) (a.deep m (up c) false (suc n) t (omega arith) (omega arith));
-    ok = λ u c n s l q.
-        let t = raise (up c) s in
-        let x = f (up c) false (suc n) t in
-        let p = past x.code (suc n) in
-        let y = g c false (suc p) x.state in
-        let o = b.grows c false (suc p) x.state in
-        let e = past_weigh x.code (suc n) in
-        let z = past_weigh y.code (suc p) in
-        let w = weigh_append 1 x.code (instr (j (past y.code (suc p))) ∷ y.code) in
-        let v = a.ok u (up c) false (suc n) t (omega arith) q in
-        let v' = b.ok u c false (suc p) x.state (omega arith) v.good in
-        record { good = v'.good; fits = (fi (suc p) (omega arith), every_append Fits x.code (instr (j (past y.code (suc p))) ∷ y.code) v.fits (fj (past y.code (suc p)) (omega arith), v'.fits)) };
-  })
+  fork_r i j up k fi fj {f} {g} a b = flushed λ c n s.
+      let t = raise (up c) s in
+      let x = f (up c) false (suc n) t in
+      let p = past x.code (suc n) in
+      let y = g c false (suc p) x.state in
+      let z = instr (j (past y.code (suc p))) ∷ y.code in
+      let h = a.by (up c) false (suc n) t in
+      let o = b.by c false (suc p) x.state in
+      let q = k.by c in
+      let w = weigh_append 1 x.code z in
+      let e = past_weigh x.code (suc n) in
+      let d = past_weigh y.code (suc p) in
+      record {
+        grows = omega arith;
+        deep = λ m r d. o.deep m (omega arith) (h.deep m (omega arith) (omega arith));
+        ok = λ u l q.
+            let v = h.ok u (omega arith) q in
+            let v' = o.ok u (omega arith) v.good in
+            record { good = v'.good; fits = (fi (suc p) (omega arith), every_append Fits x.code z v.fits (fj (past y.code (suc p)) (omega arith), v'.fits)) };
+      }
 
 -- a loop aims its breaks and continues
 aimed : (check_at cleanup_at : ℕ) → check_at ≤ 65535 → cleanup_at ≤ 65535 → (xs : List Item) → Every Fits xs → Every Fits (map (aim check_at cleanup_at) xs)
@@ -104,59 +91,41 @@ open_by false = record { by = λ c. omega arith }
 
 module _ {is : List ℕ} where
   pub looped_r : {f : Lowering} → Ranged is f → Ranged is (counted_loop f)
-  looped_r {f} a = flushed (record {
-    grows = λ c n s.
-        let t = raise (opens true c) s in
-        let x = f (opens true c) false (suc n) t in
-        let k = past x.code (suc n) in
-        let h = a.grows (opens true c) false (suc n) t in
-        let m = weigh_map 1 (aim k (suc k)) x.code in
-        let w = weigh_append 1 (map (aim k (suc k)) x.code) (instr (loop_check (suc n)) ∷ instr loop_end ∷ []) in omega arith;
-    deep = λ o c n s r d.
-        let t = raise (opens true c) s in
-        let x = f (opens true c) false (suc n) t in
-        let k = past x.code (suc n) in
-        let h = a.grows (opens true c) false (suc n) t in
-        let m = weigh_map 1 (aim k (suc k)) x.code in
-        let w = weigh_append 1 (map (aim k (suc k)) x.code) (instr (loop_check (suc n)) ∷ instr loop_end ∷ []) in
-        let j = (open_by true).by c in
-        a.deep o (opens true c) false (suc n) t (omega arith) (omega arith);
-    ok = λ u c n s l q.
-        let t = raise (opens true c) s in
-        let x = f (opens true c) false (suc n) t in
-        let k = past x.code (suc n) in
-        let e = past_weigh x.code (suc n) in
-        let m = weigh_map 1 (aim k (suc k)) x.code in
-        let w = weigh_append 1 (map (aim k (suc k)) x.code) (instr (loop_check (suc n)) ∷ instr loop_end ∷ []) in
-        let v = a.ok u (opens true c) false (suc n) t (omega arith) q in
-        record { good = v.good; fits = (fits_begin (suc (suc k)) (omega arith), every_append Fits (map (aim k (suc k)) x.code) (instr (loop_check (suc n)) ∷ instr loop_end ∷ []) (aimed k (suc k) (omega arith) (omega arith) x.code v.fits) (fits_check (suc n) (omega arith), (fits_loop_end, tt))) };
-  })
+  looped_r {f} a = flushed λ c n s.
+      let t = raise (opens true c) s in
+      let x = f (opens true c) false (suc n) t in
+      let k = past x.code (suc n) in
+      let z = instr (loop_check (suc n)) ∷ instr loop_end ∷ [] in
+      let h = a.by (opens true c) false (suc n) t in
+      let j = (open_by true).by c in
+      let e = past_weigh x.code (suc n) in
+      let m = weigh_map 1 (aim k (suc k)) x.code in
+      let w = weigh_append 1 (map (aim k (suc k)) x.code) z in
+      record {
+        grows = omega arith;
+        deep = λ o r d. h.deep o (omega arith) (omega arith);
+        ok = λ u l q.
+            let v = h.ok u (omega arith) q in
+            let b = aimed k (suc k) (omega arith) (omega arith) x.code v.fits in
+            record { good = v.good; fits = (fits_begin (suc (suc k)) (omega arith), every_append Fits (map (aim k (suc k)) x.code) z b (fits_check (suc n) (omega arith), (fits_loop_end, tt))) };
+      }
 
   pub eached_r : (i : EachNext) → (Under is → Aims (each_next i)) → {f : Lowering} → Ranged is f → Ranged is (eached i f)
-  eached_r i fi {f} a = flushed (record {
-    grows = λ c n s.
-        let t = raise (opens false c) s in
-        let x = f (opens false c) false (suc (suc n)) t in
-        let k = past x.code (suc (suc n)) in
-        let h = a.grows (opens false c) false (suc (suc n)) t in
-        let m = weigh_map 1 (aim (suc n) (suc k)) x.code in
-        let w = weigh_append 1 (map (aim (suc n) (suc k)) x.code) (instr (jump (suc n)) ∷ instr loop_end ∷ []) in omega arith;
-    deep = λ o c n s r d.
-        let t = raise (opens false c) s in
-        let x = f (opens false c) false (suc (suc n)) t in
-        let k = past x.code (suc (suc n)) in
-        let h = a.grows (opens false c) false (suc (suc n)) t in
-        let m = weigh_map 1 (aim (suc n) (suc k)) x.code in
-        let w = weigh_append 1 (map (aim (suc n) (suc k)) x.code) (instr (jump (suc n)) ∷ instr loop_end ∷ []) in
-        let j = (open_by false).by c in
-        a.deep o (opens false c) false (suc (suc n)) t (omega arith) (omega arith);
-    ok = λ u c n s l q.
-        let t = raise (opens false c) s in
-        let x = f (opens false c) false (suc (suc n)) t in
-        let k = past x.code (suc (suc n)) in
-        let e = past_weigh x.code (suc (suc n)) in
-        let m = weigh_map 1 (aim (suc n) (suc k)) x.code in
-        let w = weigh_append 1 (map (aim (suc n) (suc k)) x.code) (instr (jump (suc n)) ∷ instr loop_end ∷ []) in
-        let v = a.ok u (opens false c) false (suc (suc n)) t (omega arith) q in
-        record { good = v.good; fits = (fits_each (suc (suc k)) (omega arith), (fi u (suc k) (omega arith), every_append Fits (map (aim (suc n) (suc k)) x.code) (instr (jump (suc n)) ∷ instr loop_end ∷ []) (aimed (suc n) (suc k) (omega arith) (omega arith) x.code v.fits) (fits_jump (suc n) (omega arith), (fits_loop_end, tt)))) };
-  })
+  eached_r i fi {f} a = flushed λ c n s.
+      let t = raise (opens false c) s in
+      let x = f (opens false c) false (suc (suc n)) t in
+      let k = past x.code (suc (suc n)) in
+      let z = instr (jump (suc n)) ∷ instr loop_end ∷ [] in
+      let h = a.by (opens false c) false (suc (suc n)) t in
+      let j = (open_by false).by c in
+      let e = past_weigh x.code (suc (suc n)) in
+      let m = weigh_map 1 (aim (suc n) (suc k)) x.code in
+      let w = weigh_append 1 (map (aim (suc n) (suc k)) x.code) z in
+      record {
+        grows = omega arith;
+        deep = λ o r d. h.deep o (omega arith) (omega arith);
+        ok = λ u l q.
+            let v = h.ok u (omega arith) q in
+            let b = aimed (suc n) (suc k) (omega arith) (omega arith) x.code v.fits in
+            record { good = v.good; fits = (fits_each (suc (suc k)) (omega arith), (fi u (suc k) (omega arith), every_append Fits (map (aim (suc n) (suc k)) x.code) z b (fits_jump (suc n) (omega arith), (fits_loop_end, tt)))) };
+      }

@@ -18,55 +18,32 @@ use Rattle.program.specs.Instruction as Instr
 use Rattle.program.specs.Instruction.{post, hash, resource, this, negate, not, and_last, or_last, pointer_leave, store_var, store_temp, store_member, cmp_const, eq_const, eq_hash, add_acc, add_last, mul, div, cmp, eq, load_var, load_temp, load_ctx, member, div_guard, and_step, or_step, pointer_enter, jump_if_falsy, EachNext, each_next_var, each_next_temp, plain, taking, reading, guard, jump, handler_push, handler_pop, return, each_next}
 use Rattle.program.specs.Kinds.{USES_RANDOM, USES_RANDOM_OP}
 use Rattle.program.specs.Program.{StoreRoot, root_var, root_temp, root_other}
-use Rattle.semantics.proofs.FitTrees.{PayloadFits, float_fits, const_fits, string_fits, resource_fits, TreeFits, ForestFits, name_r, hash_r, math_r, asked_r}
+use Rattle.semantics.proofs.FitTrees.{PayloadFits, float_fits, const_fits, string_fits, resource_fits, TreeFits, ForestFits, name_r, hash_r, math_r, asked_r, kind_r}
 use Rattle.semantics.proofs.RangedCalls.{Ranges, query_r}
 use Rattle.semantics.proofs.RangedJumps.{fits_jump, guarded_r, fork_r, looped_r, eached_r}
 use Rattle.semantics.proofs.RangedPools.{free, with_temp_r, with_store_r, constant_r, with_const_r, with_hash_r, with_name_r, with_member_r, post_r}
+use Rattle.semantics.proofs.Relations.{either_one}
 use Rattle.semantics.proofs.Ranges.{Fits, Aims, FitText, Under, Ranged, shift, Up, sets_fit, not_fit, queried_fit, every_append, ◌then_r◌, pushed_r, nothing_r, failing_r, put_r, jumps_r, flagged_r}
 use Rattle.semantics.specs.Link.{relocate, settle}
 use Rattle.semantics.specs.Lowering.{statements, logic, terms, host_math, stores, target, each_of, variable, loaded, chained, pointer, returning, Lowerings, member_read, with_root, member_store, is_member, target_refusal, unless, equal_const, is_empty, array_element, lower_plain, lower_rule, lower, lowers}
-use Rattle.semantics.specs.Payloads.{link, const_of, one, two, three, some, just, Path, path, paths}
-use Rattle.semantics.specs.Pieces.{Lowering, put, nothing, failing, with_post}
+use Rattle.semantics.specs.Payloads.{link, const_of, one, Path, path, paths}
+use Rattle.semantics.specs.Pieces.{Lowering, put, nothing, failing, with_post, constant}
 use Rattle.ast.specs.Header.{Settings}
 use Rattle.semantics.specs.Run.{operand+, handler+, same}
 use Rattle.semantics.specs.State.{instr, to_cleanup, to_check}
 
 -- Each rule's lowering fits; so does a whole tree's, if its own fields fit. Assumes nothing.
 
--- the first children
-module _ {X : Type 0} (R : X → Type 0) where
-  one_r : (xs : List Lowerings) → Every Ranges xs → {d : X} {f : Lowerings → X} → R d → ((a : Lowerings) → Ranges a → R (f a)) → R (one xs d f)
-  one_r [] z h i = h
-  one_r (a ∷ xs) z h i = i a z.0
-
-  two_r : (xs : List Lowerings) → Every Ranges xs → {d : X} {f : Lowerings → Lowerings → X} → R d → ((a : Lowerings) → Ranges a → (b : Lowerings) → Ranges b → R (f a b)) → R (two xs d f)
-  two_r [] z h i = h
-  two_r (a ∷ xs) z h i = one_r xs z.1 h (i a z.0)
-
-  three_r : (xs : List Lowerings) → Every Ranges xs → {d : X} {f : Lowerings → Lowerings → Lowerings → X} → R d → ((a : Lowerings) → Ranges a → (b : Lowerings) → Ranges b → (c : Lowerings) → Ranges c → R (f a b c)) → R (three xs d f)
-  three_r [] z h i = h
-  three_r (a ∷ xs) z h i = two_r xs z.1 h (i a z.0)
-
-  some_r : (xs : List Lowerings) → Every Ranges xs → {d : X} {f : Lowerings → List Lowerings → X} → R d → ((a : Lowerings) → Ranges a → (ys : List Lowerings) → Every Ranges ys → R (f a ys)) → R (some xs d f)
-  some_r [] z h i = h
-  some_r (a ∷ xs) z h i = i a z.0 xs z.1
-
-  just_r : (xs : List Lowerings) → Every Ranges xs → {d : X} {f : Lowerings → X} → R d → ((a : Lowerings) → Ranges a → R (f a)) → R (just xs d f)
-  just_r [] z h i = h
-  just_r (a ∷ []) z h i = i a z.0
-  just_r (a ∷ b ∷ xs) z h i = h
-
 -- pieces that end in one instruction
 post_instruction_r : {is : List ℕ} (x : Bool) (p : Post) → FitPost p → Ranged is (cond x nothing (with_post p (λ q. put (plain (post q)))))
 unfolding settle relocate word_of
-post_instruction_r true p fp = nothing_r
-post_instruction_r false p fp = post_r p fp _ (λ q. put_r (plain (post q)) (λ u b h. omega (arith, u.0)))
+post_instruction_r {is} x p fp = either_one (Ranged is) x nothing_r (post_r p fp _ (λ q. put_r (plain (post q)) (λ u b h. omega (arith, u.0))))
 
 loaded_r : (v : Payload) → PayloadFits v → (p : Post) → FitPost p → Ranged [] (loaded v p)
 unfolding loaded settle relocate word_of
-loaded_r v fv p fp = post_r p fp _ λ q. name_r (Ranged (q ∷ [])) 4 v fv (name_r (Ranged (q ∷ [])) 5 v fv (name_r (Ranged (q ∷ [])) 3 v fv (failing_r 7)
+loaded_r v fv p fp = post_r p fp _ λ q. kind_r (Ranged (q ∷ [])) v fv (name_r (Ranged (q ∷ [])) 3 v fv (failing_r 7)
     (λ n fn. flagged_r _ (sets_fit 8 (omega arith)) (with_name_r n fn _ (λ k. put_r (reading (load_ctx k q)) (λ u b h. omega (arith, u.0, u.1.0))))))
-    (λ n fn. with_temp_r n fn _ (λ k. put_r (reading (load_temp k q)) (λ u b h. omega (arith, u.0, u.1.0)))))
+    (λ n fn. with_temp_r n fn _ (λ k. put_r (reading (load_temp k q)) (λ u b h. omega (arith, u.0, u.1.0))))
     (λ n fn. flagged_r _ (sets_fit 2 (omega arith)) (with_name_r n fn _ (λ k. put_r (reading (load_var k q)) (λ u b h. omega (arith, u.0, u.1.0)))))
 
 equal_const_r : (o : ℕ) → Below 1 o → (v : Payload) → PayloadFits v → (q : ℕ) → Ranged (q ∷ []) (equal_const o v q)
@@ -82,11 +59,8 @@ pub record PathFits (m : Path) : Type 0 where
 
 link_fits : (r : Rule) (v : Payload) → PayloadFits v → (m : Path) → PathFits m → PathFits (link r v m)
 unfolding link
-link_fits R.return v fv m h = record { root = fv; hashes = tt }
-link_fits R.entity v fv m h = record { root = fv; hashes = tt }
-link_fits R.pointer v fv m h = record { root = fv; hashes = tt }
-link_fits (R.plain r) v fv m h = record { root = fv; hashes = tt }
 link_fits R.member v fv m h = name_r PathFits 6 v fv (record { root = tt; hashes = tt }) (λ n fn. record { root = h.root; hashes = every_append (Below 8) m.hashes (n.hash ∷ []) h.hashes (fn.hash, tt) })
+link_fits _ v fv m h = record { root = fv; hashes = tt }
 
 mutual
   unfolding path TreeFits
@@ -100,8 +74,8 @@ mutual
 
 root_r : (is : List ℕ) (v : Payload) → PayloadFits v → (g : StoreRoot → Lowering) → ((js : List ℕ) (r : StoreRoot) → (Under js → Below 2 (root_index r)) → (Under js → Under is) → Ranged js (g r)) → Ranged is (with_root v g)
 unfolding with_root root_index
-root_r is v fv g h = name_r (Ranged is) 4 v fv (name_r (Ranged is) 5 v fv (h is root_other (λ u. omega arith) (λ u. u))
-    (λ n fn. with_temp_r n fn _ (λ t. h (t ∷ is) (root_temp t) (λ u. omega (arith, u.0)) (λ u. u.1))))
+root_r is v fv g h = kind_r (Ranged is) v fv (h is root_other (λ u. omega arith) (λ u. u))
+    (λ n fn. with_temp_r n fn _ (λ t. h (t ∷ is) (root_temp t) (λ u. omega (arith, u.0)) (λ u. u.1)))
     (λ n fn. with_name_r n fn _ (λ t. h (t ∷ is) (root_var t) (λ u. omega (arith, u.0)) (λ u. u.1)))
 
 member_store_r : (x : Bool) (m : Path) → PathFits m → (q : ℕ) → Ranged (q ∷ []) (cond x (member_store m q) (failing 7))
@@ -111,8 +85,8 @@ member_store_r false m fm q = failing_r 7
 
 stores_r : (r : Rule) (v : Payload) → PayloadFits v → (m : Path) → PathFits m → (p : Post) → FitPost p → Ranged [] (stores r v m p)
 unfolding stores settle relocate word_of
-stores_r r v fv m fm p fp = post_r p fp _ λ q. name_r (Ranged (q ∷ [])) 4 v fv (name_r (Ranged (q ∷ [])) 5 v fv (member_store_r (is_member r && m.fine) m fm q)
-    (λ n fn. with_temp_r n fn _ (λ t. put_r (plain (store_temp t q)) (λ u b h. omega (arith, u.0, u.1.0)))))
+stores_r r v fv m fm p fp = post_r p fp _ λ q. kind_r (Ranged (q ∷ [])) v fv (member_store_r (is_member r && m.fine) m fm q)
+    (λ n fn. with_temp_r n fn _ (λ t. put_r (plain (store_temp t q)) (λ u b h. omega (arith, u.0, u.1.0))))
     (λ n fn. with_name_r n fn _ (λ t. put_r (plain (store_var t q)) (λ u b h. omega (arith, u.0, u.1.0))))
 
 unless_r : {is : List ℕ} (r : ℕ) {f : Lowering} → Ranged is f → Ranged is (unless r f)
@@ -128,9 +102,14 @@ target_r (cons (node op o v us) ts) ft h p fp = unless_r (target_refusal (rule_a
 variable_r : (ts : Forest) → ForestFits ts → (g : EachNext → Lowering) → ((js : List ℕ) (i : EachNext) → (Under js → Aims (each_next i)) → Ranged js (g i)) → Ranged [] (variable ts g)
 unfolding variable each_of TreeFits settle relocate word_of
 variable_r nil ft g h = failing_r 7
-variable_r (cons (node op o v us) ts) ft g h = name_r (Ranged []) 4 v ft.0.1 (name_r (Ranged []) 5 v ft.0.1 (failing_r 7)
-    (λ n fn. with_temp_r n fn _ (λ t. h (t ∷ []) (each_next_temp t) (λ u x k b j. let e = shift b x in omega (arith, u.0)))))
+variable_r (cons (node op o v us) ts) ft g h = kind_r (Ranged []) v ft.0.1 (failing_r 7)
+    (λ n fn. with_temp_r n fn _ (λ t. h (t ∷ []) (each_next_temp t) (λ u x k b j. let e = shift b x in omega (arith, u.0))))
     (λ n fn. with_name_r n fn _ (λ t. h (t ∷ []) (each_next_var t) (λ u x k b j. let e = shift b x in omega (arith, u.0))))
+
+-- the first child, or else a constant
+other_r : (xs : List Lowerings) → Every Ranges xs → (k : ℕ) → Below 4 k → (l : Bool) → Ranged [] (one xs (constant k) (λ a. a.expr l))
+other_r [] z k fk l = constant_r k fk
+other_r (a ∷ xs) z k fk l = z.0.expr l
 
 -- rules over lists of children
 statements_r : (o : ℕ) → Below 4 o → (xs : List Lowerings) → Every Ranges xs → (l : Bool) → Ranged [] (statements o xs l)
@@ -141,20 +120,10 @@ statements_r o fo (a ∷ xs) z l = z.0.statement l then_r statements_r o fo xs z
 up_same : Up same
 up_same = record { by = λ c. omega arith }
 
-steps : (j : Bool) (q : ℕ) → q ≤ 65535 → Aims (guard (cond j (and_step q) (or_step q)))
-unfolding settle relocate word_of
-steps true q k t h b i = let e = shift b t in omega arith
-steps false q k t h b i = let e = shift b t in omega arith
-
-lasts : (j : Bool) (q : ℕ) → q ≤ 65535 → Fits (instr (plain (cond j (and_last q) (or_last q))))
-unfolding settle relocate word_of
-lasts true q k b i = omega arith
-lasts false q k b i = omega arith
-
 junction_r : (j : Bool) (q : ℕ) (a : Lowerings) → Ranges a → (xs : List Lowerings) → Every Ranges xs → (l : Bool) → Ranged (q ∷ []) (logic (cond j (and_step q) (or_step q)) (cond j (and_last q) (or_last q)) a xs l)
-unfolding logic
-junction_r j q a fa [] z l = free (fa.expr l) then_r put_r (plain (cond j (and_last q) (or_last q))) (λ u. lasts j q u.0)
-junction_r j q a fa (b ∷ xs) z l = free (fa.expr l) then_r guarded_r (cond j (and_step q) (or_step q)) same up_same (λ u. steps j q u.0) (junction_r j q b z.0 xs z.1 l)
+unfolding logic settle relocate word_of
+junction_r j q a fa [] z l = free (fa.expr l) then_r put_r (plain (cond j (and_last q) (or_last q))) (λ u. either_one (λ i. Fits (instr (plain i))) j (λ b h. omega (arith, u.0)) (λ b h. omega (arith, u.0)))
+junction_r j q a fa (b ∷ xs) z l = free (fa.expr l) then_r guarded_r (cond j (and_step q) (or_step q)) same up_same (λ u. either_one (λ g. Aims (guard g)) j (λ t h b i. let e = shift b t in omega (arith, u.0)) (λ t h b i. let e = shift b t in omega (arith, u.0))) (junction_r j q b z.0 xs z.1 l)
 
 addition_r : (p : Post) → FitPost p → (a : Lowerings) → Ranges a → (xs : List Lowerings) → Every Ranges xs → (l : Bool) → Ranged [] (terms p a xs l)
 unfolding terms settle relocate word_of
@@ -172,86 +141,24 @@ few_r f n ff p fp a fa xs z l false e = failing_r 7
 
 array_r : (x : Bool) (p : Post) → FitPost p → (v : Payload) → PayloadFits v → (xs : List Lowerings) → Every Ranges xs → (l : Bool) → Ranged [] (cond x (array_element p v xs l) (failing 5))
 unfolding array_element settle relocate word_of
-array_r true p fp v fv xs z l = just_r (Ranged []) xs z (failing_r 7) λ a fa. name_r (Ranged []) 7 v fv (failing_r 7) (λ n fn. flagged_r _ not_fit (fa.expr l then_r with_name_r n fn _ (λ k. post_r p fp _ (λ q. put_r (reading (Instr.array_element k q)) (λ u b h. omega (arith, u.0, u.1.0))))))
+array_r true p fp v fv (a ∷ []) z l = name_r (Ranged []) 7 v fv (failing_r 7) (λ n fn. flagged_r _ not_fit (z.0.expr l then_r with_name_r n fn _ (λ k. post_r p fp _ (λ q. put_r (reading (Instr.array_element k q)) (λ u b h. omega (arith, u.0, u.1.0))))))
+array_r true p fp v fv xs z l = failing_r 7
 array_r false p fp v fv xs z l = failing_r 5
-
-unary_r : (x : Bool) (q : ℕ) → q ≤ 65535 → Fits (instr (plain (cond x (negate q) (not q))))
-unfolding settle relocate word_of
-unary_r true q h b i = omega arith
-unary_r false q h b i = omega arith
-
-up_operand : Up operand+
-up_operand = record { by = λ c. omega arith }
-
-up_handler : Up handler+
-up_handler = record { by = λ c. omega arith }
 
 aims_div_guard : (d : Bool) → Aims (guard (div_guard d))
 unfolding settle relocate word_of bit
 aims_div_guard true t h b i = let e = shift b t in omega arith
 aims_div_guard false t h b i = let e = shift b t in omega arith
 
-aims_falsy : Aims (guard jump_if_falsy)
-unfolding settle relocate word_of
-aims_falsy t h b i = let e = shift b t in omega arith
-
-aims_push : Aims handler_push
-unfolding settle relocate word_of
-aims_push t h b i = let e = shift b t in omega arith
-
-aims_pop : Aims handler_pop
-unfolding settle relocate word_of
-aims_pop t h b i = let e = shift b t in omega arith
-
-aims_pointer : (q : ℕ) → q ≤ 65535 → Aims (guard (pointer_enter q))
-unfolding settle relocate word_of
-aims_pointer q k t h b i = let e = shift b t in omega arith
-
-fits_waiting : Fits to_cleanup × Fits to_check
-unfolding settle word_of
-fits_waiting = ((λ b h. omega arith), (λ b h. omega arith))
-
-volatile_fits : (u : Bool) → cond u (USES_RANDOM + USES_RANDOM_OP) 0 < 2048
-volatile_fits true = omega arith
-volatile_fits false = omega arith
-
 -- the subs that the table of rules gives, tested once over the whole table
 unfoldable small_plain : R.Plain → Bool
-small_plain R.array = true
-small_plain R.uses_arrays = true
-small_plain R.uses_resources = true
-small_plain R.float = true
-small_plain R.string = true
-small_plain R.resource = true
-small_plain R.this = true
-small_plain R.load = true
-small_plain R.query = true
 small_plain (R.compare o) = leb o 3
 small_plain (R.equal o) = leb o 1
-small_plain (R.logic j) = true
-small_plain R.coalesce = true
-small_plain R.conditional = true
-small_plain R.statements = true
-small_plain R.loop = true
-small_plain R.for_each = true
-small_plain R.break = true
-small_plain R.continue = true
-small_plain R.assign = true
-small_plain R.bracket = true
-small_plain (R.unary u) = true
-small_plain R.add = true
-small_plain R.mul = true
-small_plain R.div = true
-small_plain (R.host_math u) = true
-small_plain R.generic = true
-small_plain R.refused = true
+small_plain _ = true
 
 unfoldable small_rule : Rule → Bool
-small_rule R.return = true
-small_rule R.member = true
-small_rule R.entity = true
-small_rule R.pointer = true
 small_rule (R.plain r) = small_plain r
+small_rule _ = true
 
 abbrev all_small : List Rule → Bool
 all_small [] = true
@@ -287,33 +194,36 @@ module _ (S : Settings) where
   plain_r R.this e p fp v fv ts ft xs z l = post_r p fp _ (λ q. put_r (plain (this q)) (λ u b h. omega (arith, u.0)))
   plain_r R.load e p fp v fv ts ft xs z l = loaded_r v fv p fp
   plain_r R.query e p fp v fv ts ft xs z l = asked_r (Ranged []) v fv (failing_r 7) (λ i m fi fm. flagged_r _ (queried_fit (is_empty xs)) (query_r i m p fi fm fp xs z))
-  plain_r (R.compare o) e p fp v fv ts ft xs z l = some_r (Ranged []) xs z (failing_r 7) λ a fa ys fs. post_r p fp _ λ q. let fo : o ≤ 3 = leb-true o 3 e in some_r (Ranged (q ∷ [])) ys fs
-      (free (fa.expr l) then_r with_const_r _ (const_fits v fv) _ (λ k. put_r (plain (cmp_const o k q)) (λ u b h. omega (arith, u.0, u.1.0))))
-      λ b fb zs gs. pushed_r (free (fa.expr l)) (free (fb.expr l) then_r put_r (taking (cmp o q)) (λ u b h. omega (arith, u.0)))
-  plain_r (R.equal o) e p fp v fv ts ft xs z l = some_r (Ranged []) xs z (failing_r 7) λ a fa ys fs. post_r p fp _ λ q. let fo : o ≤ 1 = leb-true o 1 e in some_r (Ranged (q ∷ [])) ys fs
-      (free (fa.expr l) then_r equal_const_r o (omega arith) v fv q)
-      λ b fb zs gs. pushed_r (free (fa.expr l)) (free (fb.expr l) then_r put_r (taking (eq o q)) (λ u b h. omega (arith, u.0)))
-  plain_r (R.logic j) e p fp v fv ts ft xs z l = some_r (Ranged []) xs z (failing_r 7) λ a fa ys fs. post_r p fp _ λ q. junction_r j q a fa ys fs l
-  plain_r R.coalesce e p fp v fv ts ft xs z l = two_r (Ranged []) xs z (failing_r 7) λ a fa b fb. fork_r handler_push handler_pop handler+ up_handler aims_push aims_pop (fa.expr l) (fb.expr l) then_r post_instruction_r (is_identity p) p fp
-  plain_r R.conditional e p fp v fv ts ft xs z l = some_r (Ranged []) xs z (failing_r 7) λ a fa ys fs. some_r (Ranged []) ys fs (failing_r 7) λ b fb zs gs. fa.expr l then_r fork_r (guard jump_if_falsy) jump same up_same aims_falsy fits_jump (fb.expr l) (one_r (Ranged []) zs gs (constant_r 0 (omega arith)) (λ c fc. fc.expr l)) then_r post_instruction_r (is_identity p) p fp
+  plain_r (R.compare o) e p fp v fv ts ft (a ∷ []) z l = post_r p fp _ λ q. free (z.0.expr l) then_r with_const_r _ (const_fits v fv) _ (λ k. put_r (plain (cmp_const o k q)) (λ u b h. let fo = leb-true o 3 e in omega (arith, u.0, u.1.0)))
+  plain_r (R.compare o) e p fp v fv ts ft (a ∷ b ∷ xs) z l = post_r p fp _ λ q. pushed_r (free (z.0.expr l)) (free (z.1.0.expr l) then_r put_r (taking (cmp o q)) (λ u b h. let fo = leb-true o 3 e in omega (arith, u.0)))
+  plain_r (R.equal o) e p fp v fv ts ft (a ∷ []) z l = post_r p fp _ λ q. free (z.0.expr l) then_r equal_const_r o (let fo = leb-true o 1 e in omega arith) v fv q
+  plain_r (R.equal o) e p fp v fv ts ft (a ∷ b ∷ xs) z l = post_r p fp _ λ q. pushed_r (free (z.0.expr l)) (free (z.1.0.expr l) then_r put_r (taking (eq o q)) (λ u b h. let fo = leb-true o 1 e in omega (arith, u.0)))
+  plain_r (R.logic j) e p fp v fv ts ft (a ∷ xs) z l = post_r p fp _ λ q. junction_r j q a z.0 xs z.1 l
+  plain_r R.coalesce e p fp v fv ts ft (a ∷ b ∷ xs) z l = fork_r handler_push handler_pop handler+ (record { by = λ c. omega arith }) (λ t h b i. let e = shift b t in omega arith) (λ t h b i. let e = shift b t in omega arith) (z.0.expr l) (z.1.0.expr l) then_r post_instruction_r (is_identity p) p fp
+  plain_r R.conditional e p fp v fv ts ft (a ∷ b ∷ xs) z l = z.0.expr l then_r fork_r (guard jump_if_falsy) jump same up_same (λ t h b i. let e = shift b t in omega arith) fits_jump (z.1.0.expr l) (other_r xs z.1.1 0 (omega arith) l) then_r post_instruction_r (is_identity p) p fp
   plain_r R.statements e p fp v fv ts ft xs z l = statements_r p.offset fp.offset xs z l
-  plain_r R.loop e p fp v fv ts ft xs z l = flagged_r _ (sets_fit 64 (omega arith)) (two_r (Ranged []) xs z (failing_r 7) λ a fa b fb. fa.expr l then_r looped_r (fb.expr true) then_r constant_r _ (fold_fits_four p 0 (omega arith)))
-  plain_r R.for_each e p fp v fv ts ft xs z l = flagged_r _ (λ f g. not_fit _ (sets_fit 64 (omega arith) f g)) (three_r (Ranged []) xs z (failing_r 7) λ a fa b fb c fc. variable_r ts ft _ (λ js i fi. free (fb.expr l) then_r eached_r i fi (free (fc.expr true)) then_r constant_r _ (fold_fits_four p 0 (omega arith))))
-  plain_r R.break e p fp v fv ts ft xs z l = jumps_r to_cleanup fits_waiting.0 l
-  plain_r R.continue e p fp v fv ts ft xs z l = jumps_r to_check fits_waiting.1 l
-  plain_r R.assign e p fp v fv ts ft xs z l = some_r (Ranged []) xs z (failing_r 7) λ a fa ys fs. target_r ts ft (one_r (Ranged []) ys fs (constant_r _ (const_fits v fv)) (λ b fb. fb.expr l)) p fp
-  plain_r R.bracket e p fp v fv ts ft xs z l = one_r (Ranged []) xs z (failing_r 7) λ a fa. fa.expr l
-  plain_r (R.unary u) e p fp v fv ts ft xs z l = one_r (Ranged []) xs z (failing_r 7) λ a fa. fa.expr l then_r post_r p fp _ (λ q. put_r (plain (cond u (negate q) (not q))) (λ i. unary_r u q i.0))
-  plain_r R.add e p fp v fv ts ft xs z l = some_r (Ranged []) xs z (failing_r 7) λ a fa ys fs. some_r (Ranged []) ys fs (fa.expr l then_r post_instruction_r (is_identity p) p fp) λ b fb zs gs. pushed_r (fa.expr l) (addition_r p fp b fb zs gs l)
-  plain_r R.mul e p fp v fv ts ft xs z l = two_r (Ranged []) xs z (failing_r 7) λ a fa b fb. pushed_r (fa.expr l) (fb.expr l then_r post_r p fp _ (λ q. put_r (taking (mul q)) (λ u b h. omega (arith, u.0))))
-  plain_r R.div e p fp v fv ts ft xs z l = two_r (Ranged []) xs z (failing_r 7) λ a fa b fb. fb.expr l then_r guarded_r (div_guard S.absolute) operand+ up_operand (λ u. aims_div_guard S.absolute) (fa.expr l then_r post_r p fp _ (λ q. put_r (taking (div q)) (λ u b h. omega (arith, u.0))))
-  plain_r (R.host_math u) e p fp v fv ts ft xs z l = flagged_r _ (sets_fit (cond u (USES_RANDOM + USES_RANDOM_OP) 0) (volatile_fits u)) (math_r (Ranged []) v fv (failing_r 7) λ f ff. some_r (Ranged []) xs z (failing_r 7) λ a fa ys fs. few_r f (length xs) ff p fp a fa ys fs l (leb (length xs) 255) refl)
+  plain_r R.loop e p fp v fv ts ft (a ∷ b ∷ xs) z l = flagged_r _ (sets_fit 64 (omega arith)) (z.0.expr l then_r looped_r (z.1.0.expr true) then_r constant_r _ (fold_fits_four p 0 (omega arith)))
+  plain_r R.loop e p fp v fv ts ft xs z l = flagged_r _ (sets_fit 64 (omega arith)) (failing_r 7)
+  plain_r R.for_each e p fp v fv ts ft (a ∷ b ∷ c ∷ xs) z l = flagged_r _ (λ f g. not_fit _ (sets_fit 64 (omega arith) f g)) (variable_r ts ft _ (λ js i fi. free (z.1.0.expr l) then_r eached_r i fi (free (z.1.1.0.expr true)) then_r constant_r _ (fold_fits_four p 0 (omega arith))))
+  plain_r R.for_each e p fp v fv ts ft xs z l = flagged_r _ (λ f g. not_fit _ (sets_fit 64 (omega arith) f g)) (failing_r 7)
+  plain_r R.break e p fp v fv ts ft xs z l = jumps_r to_cleanup (λ b h. omega arith) l
+  plain_r R.continue e p fp v fv ts ft xs z l = jumps_r to_check (λ b h. omega arith) l
+  plain_r R.assign e p fp v fv ts ft (a ∷ xs) z l = target_r ts ft (other_r xs z.1 _ (const_fits v fv) l) p fp
+  plain_r R.bracket e p fp v fv ts ft (a ∷ xs) z l = z.0.expr l
+  plain_r (R.unary u) e p fp v fv ts ft (a ∷ xs) z l = z.0.expr l then_r post_r p fp _ (λ q. put_r (plain (cond u (negate q) (not q))) (λ i. either_one (λ g. Fits (instr (plain g))) u (λ b h. omega (arith, i.0)) (λ b h. omega (arith, i.0))))
+  plain_r R.add e p fp v fv ts ft (a ∷ []) z l = z.0.expr l then_r post_instruction_r (is_identity p) p fp
+  plain_r R.add e p fp v fv ts ft (a ∷ b ∷ xs) z l = pushed_r (z.0.expr l) (addition_r p fp b z.1.0 xs z.1.1 l)
+  plain_r R.mul e p fp v fv ts ft (a ∷ b ∷ xs) z l = pushed_r (z.0.expr l) (z.1.0.expr l then_r post_r p fp _ (λ q. put_r (taking (mul q)) (λ u b h. omega (arith, u.0))))
+  plain_r R.div e p fp v fv ts ft (a ∷ b ∷ xs) z l = z.1.0.expr l then_r guarded_r (div_guard S.absolute) operand+ (record { by = λ c. omega arith }) (λ u. aims_div_guard S.absolute) (z.0.expr l then_r post_r p fp _ (λ q. put_r (taking (div q)) (λ u b h. omega (arith, u.0))))
+  plain_r (R.host_math u) e p fp v fv ts ft [] z l = flagged_r _ (sets_fit (cond u (USES_RANDOM + USES_RANDOM_OP) 0) (either_one (◌< 2048) u (omega arith) (omega arith))) (math_r (Ranged []) v fv (failing_r 7) (λ f ff. failing_r 7))
+  plain_r (R.host_math u) e p fp v fv ts ft (a ∷ xs) z l = flagged_r _ (sets_fit (cond u (USES_RANDOM + USES_RANDOM_OP) 0) (either_one (◌< 2048) u (omega arith) (omega arith))) (math_r (Ranged []) v fv (failing_r 7) (λ f ff. few_r f (suc (length xs)) ff p fp a z.0 xs z.1 l (leb (suc (length xs)) 255) refl))
   plain_r R.generic e p fp v fv ts ft xs z l = constant_r _ (fold_fits_four p (const_of v) (const_fits v fv))
-  plain_r R.refused e p fp v fv ts ft xs z l = failing_r 7
+  plain_r _ e p fp v fv ts ft xs z l = failing_r 7
 
   chained_r : (p : Post) → FitPost p → (v : Payload) → PayloadFits v → (xs : List Lowerings) → Every Ranges xs → (n : Name) → FitText n → (l : Bool) → Ranged [] (chained p v xs n l)
   unfolding chained settle relocate word_of
-  chained_r p fp v fv xs z n fn l = one_r (Ranged []) xs z (failing_r 7) λ a fa. fa.base n fn l then_r name_r (Ranged []) 6 v fv (failing_r 7) (λ m fm. with_member_r _ (record { own = fm; last = fn }) _ (λ k. post_r p fp _ (λ q. put_r (reading (member k q)) (λ u b h. omega (arith, u.0, u.1.0)))))
+  chained_r p fp v fv [] z n fn l = failing_r 7
+  chained_r p fp v fv (a ∷ xs) z n fn l = z.0.base n fn l then_r name_r (Ranged []) 6 v fv (failing_r 7) (λ m fm. with_member_r _ (record { own = fm; last = fn }) _ (λ k. post_r p fp _ (λ q. put_r (reading (member k q)) (λ u b h. omega (arith, u.0, u.1.0)))))
 
   member_read_r : (p : Post) → FitPost p → (v : Payload) → PayloadFits v → (xs : List Lowerings) → Every Ranges xs → (l : Bool) → Ranged [] (member_read p v xs l)
   unfolding member_read
@@ -321,11 +231,12 @@ module _ (S : Settings) where
 
   pointer_r : (p : Post) → FitPost p → (xs : List Lowerings) → Every Ranges xs → (l : Bool) → Ranged [] (pointer p xs l)
   unfolding pointer settle relocate word_of
-  pointer_r p fp xs z l = flagged_r _ (λ f g. sets_fit 128 (omega arith) _ (not_fit f g)) (two_r (Ranged []) xs z (failing_r 7) λ a fa b fb. post_r p fp _ λ q. free (fa.expr l) then_r guarded_r (pointer_enter q) same up_same (λ u. aims_pointer q u.0) (free (fb.expr l) then_r put_r (plain (pointer_leave q)) (λ u b h. omega (arith, u.0))))
+  pointer_r p fp (a ∷ b ∷ xs) z l = flagged_r _ (λ f g. sets_fit 128 (omega arith) _ (not_fit f g)) (post_r p fp _ λ q. free (z.0.expr l) then_r guarded_r (pointer_enter q) same up_same (λ u t h b i. let e = shift b t in omega (arith, u.0)) (free (z.1.0.expr l) then_r put_r (plain (pointer_leave q)) (λ u b h. omega (arith, u.0))))
+  pointer_r p fp xs z l = flagged_r _ (λ f g. sets_fit 128 (omega arith) _ (not_fit f g)) (failing_r 7)
 
   return_r : (p : Post) → FitPost p → (xs : List Lowerings) → Every Ranges xs → (l : Bool) → Ranged [] (returning p xs l)
   unfolding returning settle relocate word_of
-  return_r p fp xs z l = one_r (Ranged []) xs z (constant_r 0 (omega arith)) (λ a fa. fa.expr l) then_r post_r p fp _ (λ q. put_r (return q) (λ u b h. omega (arith, u.0)))
+  return_r p fp xs z l = other_r xs z 0 (omega arith) l then_r post_r p fp _ (λ q. put_r (return q) (λ u b h. omega (arith, u.0)))
 
   whole_r : (r : Rule) → small_rule r ≡ true → (p : Post) → FitPost p → (v : Payload) → PayloadFits v → (ts : Forest) → ForestFits ts → (xs : List Lowerings) → Every Ranges xs → Ranges (lower_rule S r p v ts xs)
   unfolding lower_rule small_rule

@@ -8,12 +8,13 @@ use lib.ListN.{length}
 use Rattle.ast.specs.Tree.{Name}
 use Rattle.program.specs.Fits.{Below, Every, FitInstruction, FitPost, root_index}
 use Rattle.program.specs.Image.{word_of}
-use Rattle.program.specs.Instruction.{Instruction, push}
+use Rattle.program.specs.Instruction.{const, plain, Instruction, halt, push}
 use Rattle.program.specs.Program.{Counts}
-use Rattle.semantics.proofs.Costs.{Weight, weigh, size, waits, weigh_append}
+use Rattle.semantics.proofs.Costs.{Weight, weigh, weigh_length, size, waits, weigh_append}
+use Rattle.semantics.proofs.Positions.{past_plus, interning}
 use Rattle.semantics.specs.Demand3.{AtMost}
 use Rattle.semantics.specs.Link.{relocate, settle, offsets_of}
-use Rattle.semantics.specs.Pieces.{Lowered, Lowering, flush, put, nothing, failing, put_const, ◌⨾◌, pushed, flagged, jumps}
+use Rattle.semantics.specs.Pieces.{Lowered, emit, Lowering, flush, put, nothing, failing, put_const, ◌⨾◌, pushed, flagged, jumps}
 use Rattle.semantics.specs.Positions.{◌⊕◌, past, intern}
 use Rattle.semantics.specs.Run.{operand+}
 use Rattle.semantics.specs.State.{Item, instr, CallInfo, MemberRead, Pools, Flags, sets, not_float_only, queried, State, raise}
@@ -51,7 +52,7 @@ pub record FitInfo (i : CallInfo) : Type 0 where
   pub impl : Below 1 i.impl
   pub offsets : Every (λ o. o ≤ 65535) (offsets_of i.offsets)
 
-pub record FitPools (p : Pools) (f : Flags) : Type 0 where
+pub record FitPools (p : Pools) : Type 0 where
   pub consts : Every (Below 4) p.consts
   pub posts : Every FitPost p.posts
   pub hashes : Every (Below 8) p.hashes
@@ -61,10 +62,13 @@ pub record FitPools (p : Pools) (f : Flags) : Type 0 where
   pub stores : Every (λ v. Below 2 (root_index v.root) × Every (Below 8) v.path) p.stores
   pub calls : Every FitInfo p.calls
   pub segments : Every (Every Fits) p.segments
+
+pub record FitParts (p : Pools) (f : Flags) : Type 0 where
+  pub pools : FitPools p
   pub flags : f.bits < 2048
 
 abbrev pub Good : State → Type 0
-Good s = FitPools s.pools s.flags
+Good s = FitParts s.pools s.flags
 
 pub record Done (x : Lowered) : Type 0 where
   pub good : Good x.state
@@ -81,15 +85,17 @@ abbrev pub Under : List ℕ → Type 0
 Under [] = Unit {0}
 Under (x ∷ xs) = (x ≤ 65535) × Under xs
 
-pub record Ranged (is : List ℕ) (f : Lowering) : Type 0 where
-  pub grows : (c : Counts) (b : Bool) (n : ℕ) (s : State) → size ones s + waits ones b ≤ total (f c b n s)
-  pub deep : (m c : Counts) (b : Bool) (n : ℕ) (s : State) → Room c m (waits ones b) (size ones s) (total (f c b n s)) → AtMost s.deepest m → AtMost (f c b n s).state.deepest m
-  pub ok : Under is → (c : Counts) (b : Bool) (n : ℕ) (s : State) → n + total (f c b n s) ≤ 65535 → Good s → Done (f c b n s)
+-- a piece at the counts c and the position n, with w for a Push that may wait, from the state s to x
+pub record Adds (is : List ℕ) (c : Counts) (w n : ℕ) (s : State) (x : Lowered) : Type 0 where
+  pub grows : size ones s + w ≤ total x
+  pub deep : (m : Counts) → Room c m w (size ones s) (total x) → AtMost s.deepest m → AtMost x.state.deepest m
+  pub ok : Under is → n + total x ≤ 65535 → Good s → Done x
 
-pub record Ranged₀ (is : List ℕ) (f : Counts → ℕ → State → Lowered) : Type 0 where
-  pub grows : (c : Counts) (n : ℕ) (s : State) → size ones s ≤ total (f c n s)
-  pub deep : (m c : Counts) (n : ℕ) (s : State) → Room c m 0 (size ones s) (total (f c n s)) → AtMost s.deepest m → AtMost (f c n s).state.deepest m
-  pub ok : Under is → (c : Counts) (n : ℕ) (s : State) → n + total (f c n s) ≤ 65535 → Good s → Done (f c n s)
+pub record Ranged (is : List ℕ) (f : Lowering) : Type 0 where
+  pub by : (c : Counts) (b : Bool) (n : ℕ) (s : State) → Adds is c (waits ones b) n s (f c b n s)
+
+abbrev pub Ranged₀ : List ℕ → (Counts → ℕ → State → Lowered) → Type 0
+Ranged₀ is f = (c : Counts) (n : ℕ) (s : State) → Adds is c 0 n s (f c n s)
 
 -- lists whose entries fit
 module _ {A : Type 0} (Q : A → Type 0) where
@@ -98,18 +104,11 @@ module _ {A : Type 0} (Q : A → Type 0) where
   every_append (x ∷ xs) ys h i = (h.0, every_append xs ys h.1 i)
 
   pub every_intern : {K : Type 0} (key : A → K) (dec : (a b : K) → Dec (a ≡ b)) (v : A) (xs : List A) → Q v → Every Q xs → Every Q (intern key dec v xs)
-  unfolding intern
-  every_intern key dec v [] q h = (q, tt)
-  every_intern key dec v (x ∷ xs) q h = go (dec (key x) (key v)) (every_intern key dec v xs q h.1)
-    where
-      go : (d : Dec (key x ≡ key v)) → Every Q (intern key dec v xs) → Every Q (elim d [ yes p ↦ x ∷ xs | no h ↦ x ∷ intern key dec v xs ])
-      go (yes p) i = h
-      go (no p) i = (h.0, i)
+  every_intern key dec v xs q = interning key dec v (λ n xs ys k. Every Q xs → Every Q ys) (λ n h. (q, tt)) (λ n x xs p h. h) (λ n x xs ys k i h. (h.0, i h.1)) 0 xs
 
 -- positions
 pub past_weigh : {A : Type 0} (xs : List A) (n : ℕ) → past xs n ≡ n + weigh 1 xs
-past_weigh [] n = omega arith
-past_weigh (x ∷ xs) n = let h = past_weigh xs (suc n) in omega arith
+past_weigh xs n = omega (arith, past_plus xs n, weigh_length 1 xs)
 
 pub shift : (b t : ℕ) → b ⊕ t ≡ b + t
 shift b zero = omega arith
@@ -127,114 +126,84 @@ module _ {is : List ℕ} where
   -- a waiting Push
   pub flushed : {f : Counts → ℕ → State → Lowered} → Ranged₀ is f → Ranged is (λ c. flush (f c))
   unfolding flush
-  flushed {f} a = record { grows = gr; deep = de; ok = good }
+  flushed {f} a = record { by = go }
     where
-      gr : (c : Counts) (b : Bool) (n : ℕ) (s : State) → size ones s + waits ones b ≤ total (flush (f c) b n s)
-      gr c true n s = let h = a.grows c (suc n) s in omega arith
-      gr c false n s = let h = a.grows c n s in omega arith
-
-      de : (m c : Counts) (b : Bool) (n : ℕ) (s : State) → Room c m (waits ones b) (size ones s) (total (flush (f c) b n s)) → AtMost s.deepest m → AtMost (flush (f c) b n s).state.deepest m
-      de m c true n s r d = a.deep m c (suc n) s (omega arith) d
-      de m c false n s r d = a.deep m c n s r d
-
-      good : Under is → (c : Counts) (b : Bool) (n : ℕ) (s : State) → n + total (flush (f c) b n s) ≤ 65535 → Good s → Done (flush (f c) b n s)
-      good u c true n s l g = let x = a.ok u c (suc n) s (omega arith) g in record { good = x.good; fits = (fits_push, x.fits) }
-      good u c false n s l g = a.ok u c n s l g
+      go : (c : Counts) (b : Bool) (n : ℕ) (s : State) → Adds is c (waits ones b) n s (flush (f c) b n s)
+      go c true n s =
+          let h = a c (suc n) s in
+          record {
+            grows = omega arith;
+            deep = λ m r d. h.deep m (omega arith) d;
+            ok = λ u l g. let x = h.ok u (omega arith) g in record { good = x.good; fits = (fits_push, x.fits) };
+          }
+      go c false n s = a c n s
 
   infixr 50 ◌then_r◌
   pub ◌then_r◌ : {f g : Lowering} → Ranged is f → Ranged is g → Ranged is (f ⨾ g)
   ◌then_r◌ {f} {g} a b = record {
-    grows = λ c p n s.
+    by = λ c p n s.
         let x = f c p n s in
-        let y = g c false (past x.code n) x.state in
-        let h = a.grows c p n s in
-        let i = b.grows c false (past x.code n) x.state in
-        let e = weigh_append 1 x.code y.code in omega arith;
-    deep = λ m c p n s r d.
-        let x = f c p n s in
-        let y = g c false (past x.code n) x.state in
-        let h = a.grows c p n s in
-        let i = b.grows c false (past x.code n) x.state in
+        let i = past x.code n in
+        let y = g c false i x.state in
+        let h = a.by c p n s in
+        let k = b.by c false i x.state in
         let e = weigh_append 1 x.code y.code in
-        b.deep m c false (past x.code n) x.state (omega arith) (a.deep m c p n s (omega arith) d);
-    ok = λ u c p n s l q.
-        let x = f c p n s in
-        let y = g c false (past x.code n) x.state in
-        let i = b.grows c false (past x.code n) x.state in
-        let e = weigh_append 1 x.code y.code in
-        let m = past_weigh x.code n in
-        let v = a.ok u c p n s (omega arith) q in
-        let w = b.ok u c false (past x.code n) x.state (omega arith) v.good in
-        record { good = w.good; fits = every_append Fits x.code y.code v.fits w.fits };
+        let o = past_weigh x.code n in
+        record {
+          grows = omega arith;
+          deep = λ m r d. k.deep m (omega arith) (h.deep m (omega arith) d);
+          ok = λ u l q. let v = h.ok u (omega arith) q in let w = k.ok u (omega arith) v.good in record { good = w.good; fits = every_append Fits x.code y.code v.fits w.fits };
+        };
   }
 
   pub pushed_r : {f g : Lowering} → Ranged is f → Ranged is g → Ranged is (pushed f g)
   pushed_r {f} {g} a b = record {
-    grows = λ c p n s.
+    by = λ c p n s.
         let x = f c p n s in
+        let i = past x.code n in
         let t = raise (operand+ c) x.state in
-        let y = g (operand+ c) true (past x.code n) t in
-        let h = a.grows c p n s in
-        let i = b.grows (operand+ c) true (past x.code n) t in
-        let e = weigh_append 1 x.code y.code in omega arith;
-    deep = λ m c p n s r d.
-        let x = f c p n s in
-        let t = raise (operand+ c) x.state in
-        let y = g (operand+ c) true (past x.code n) t in
-        let h = a.grows c p n s in
-        let i = b.grows (operand+ c) true (past x.code n) t in
+        let y = g (operand+ c) true i t in
+        let h = a.by c p n s in
+        let k = b.by (operand+ c) true i t in
         let e = weigh_append 1 x.code y.code in
-        let k = a.deep m c p n s (omega arith) d in
-        b.deep m (operand+ c) true (past x.code n) t (omega arith) (omega arith);
-    ok = λ u c p n s l q.
-        let x = f c p n s in
-        let t = raise (operand+ c) x.state in
-        let y = g (operand+ c) true (past x.code n) t in
-        let i = b.grows (operand+ c) true (past x.code n) t in
-        let e = weigh_append 1 x.code y.code in
-        let m = past_weigh x.code n in
-        let v = a.ok u c p n s (omega arith) q in
-        let w = b.ok u (operand+ c) true (past x.code n) t (omega arith) v.good in
-        record { good = w.good; fits = every_append Fits x.code y.code v.fits w.fits };
+        let o = past_weigh x.code n in
+        record {
+          grows = omega arith;
+          deep = λ m r d. let v = h.deep m (omega arith) d in k.deep m (omega arith) (omega arith);
+          ok = λ u l q. let v = h.ok u (omega arith) q in let w = k.ok u (omega arith) v.good in record { good = w.good; fits = every_append Fits x.code y.code v.fits w.fits };
+        };
   }
 
   -- pieces with one instruction or none
+  emits : {c : Counts} {n : ℕ} {s : State} (xs : List Item) → (Under is → Every Fits xs) → Adds is c 0 n s (emit xs s)
+  emits xs h = record { grows = omega arith; deep = λ m r d. d; ok = λ u l g. record { good = g; fits = h u } }
+
   pub nothing_r : Ranged is nothing
-  nothing_r = flushed (record { grows = λ c n s. omega arith; deep = λ m c n s r d. d; ok = λ u c n s l g. record { good = g; fits = tt } })
+  nothing_r = flushed (λ c n s. emits [] (λ u. tt))
 
   pub failing_r : (r : ℕ) → Ranged is (failing r)
-  failing_r r = flushed (record { grows = λ c n s. omega arith; deep = λ m c n s r d. d; ok = λ u c n s l g. record { good = g; fits = tt } })
+  failing_r r = flushed (λ c n s. record { grows = omega arith; deep = λ m r d. d; ok = λ u l g. record { good = g; fits = tt } })
 
   pub put_r : (i : Instruction) → (Under is → Fits (instr i)) → Ranged is (put i)
-  put_r i h = flushed (record { grows = λ c n s. omega arith; deep = λ m c n s r d. d; ok = λ u c n s l g. record { good = g; fits = (h u, tt) } })
+  put_r i h = flushed (λ c n s. emits (instr i ∷ []) (λ u. (h u, tt)))
 
   pub jumps_r : (i : Item) → Fits i → (l : Bool) → Ranged is (jumps i l)
   unfolding jumps settle relocate word_of
-  jumps_r i h true = flushed (record { grows = λ c n s. omega arith; deep = λ m c n s r d. d; ok = λ u c n s l g. record { good = g; fits = (h, tt) } })
-  jumps_r i h false = flushed (record { grows = λ c n s. omega arith; deep = λ m c n s r d. d; ok = λ u c n s l g. record { good = g; fits = ((λ b k. omega arith), tt) } })
+  jumps_r i h true = flushed (λ c n s. emits (i ∷ []) (λ u. (h, tt)))
+  jumps_r i h false = flushed (λ c n s. emits (instr halt ∷ []) (λ u. ((λ b k. omega arith), tt)))
 
   pub const_r : (k : ℕ) → (Under is → k ≤ 65535) → Ranged is (put_const k)
   unfolding put_const settle relocate word_of
-  const_r k h = record { grows = gr; deep = de; ok = good }
+  const_r k h = record { by = go }
     where
-      gr : (c : Counts) (b : Bool) (n : ℕ) (s : State) → size ones s + waits ones b ≤ total (put_const k c b n s)
-      gr c true n s = omega arith
-      gr c false n s = omega arith
-
-      de : (m c : Counts) (b : Bool) (n : ℕ) (s : State) → Room c m (waits ones b) (size ones s) (total (put_const k c b n s)) → AtMost s.deepest m → AtMost (put_const k c b n s).state.deepest m
-      de m c true n s r d = d
-      de m c false n s r d = d
-
-      good : Under is → (c : Counts) (b : Bool) (n : ℕ) (s : State) → n + total (put_const k c b n s) ≤ 65535 → Good s → Done (put_const k c b n s)
-      good u c true n s l g = let i = h u in record { good = g; fits = ((λ b j. omega arith), tt) }
-      good u c false n s l g = let i = h u in record { good = g; fits = ((λ b j. omega arith), tt) }
+      go : (c : Counts) (b : Bool) (n : ℕ) (s : State) → Adds is c (waits ones b) n s (put_const k c b n s)
+      go c true n s = record { grows = omega arith; deep = λ m r d. d; ok = λ u l g. let i = h u in record { good = g; fits = ((λ b j. omega arith), tt) } }
+      go c false n s = emits (instr (plain (const k)) ∷ []) (λ u. let i = h u in ((λ b j. omega arith), tt))
 
   -- flags stay below 2,048
   pub flagged_r : (m : Flags → Flags) → ((f : Flags) → f.bits < 2048 → (m f).bits < 2048) → {f : Lowering} → Ranged is f → Ranged is (flagged m f)
   flagged_r m h a = record {
-    grows = λ c b n s. a.grows c b n _;
-    deep = λ m c b n s. a.deep m c b n _;
-    ok = λ u c b n s l g. a.ok u c b n _ l (record { consts = g.consts; posts = g.posts; hashes = g.hashes; names = g.names; temps = g.temps; members = g.members; stores = g.stores; calls = g.calls; segments = g.segments; flags = h _ g.flags });
+    by = λ c b n s. let x = a.by c b n _ in record { grows = x.grows; deep = x.deep; ok = λ u l g. x.ok u l (record { pools = g.pools; flags = h _ g.flags }) };
   }
 
 pub sets_fit : (k : ℕ) → k < 2048 → (f : Flags) → f.bits < 2048 → (sets k f).bits < 2048

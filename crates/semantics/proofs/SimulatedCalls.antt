@@ -64,12 +64,10 @@ module _ (P : Program) (E : ℕ) (r : Result) where
       → (x : Completion) → Z.After P E r e κ n (segment c v x) → Z.After P E r inside (calling b n k m j c κ) i x
   unfolding segment leave execute
   segment_after e κ b n k m j i c v at_end h (normal w) q = Z.ends_at P E r (b ⊕ i) at_end (h (set_counts c w) q)
-  segment_after e κ b n k m j i c v at_end h (missing w) q = tt
-  segment_after e κ b n k m j i c v at_end h (broke w) q = tt
-  segment_after e κ b n k m j i c v at_end h (again w) q = tt
   segment_after e κ b n k m j i c v at_end h (returned w) q = h (set_counts c w) q
   segment_after e κ b n k m j i c v at_end h (halted w) q = h (set_counts c w) q
   segment_after e κ b n k m j i c v at_end h (out w) q = q
+  segment_after e κ b n k m j i c v at_end h _ q = tt
 
   pub args_ends : (k j : ℕ) {ls : List Lowerings} {ms : List Walkings} → Zip Tree-s ls ms → (c : Counts) (s : State) → Z.Ext P E r (L.arguments ls c s).state → Holds (start_at P k) j (map (E ⊕◌) (L.arguments ls c s).offsets)
       → (e : Scope) (κ : Place) (n : ℕ) → Z.Fits P E r e κ → (w : Run) → Z.After P E r e κ n (K.arguments j ms (K.perhaps e) w) → Z.Ends P E r (enter P k (length ls) j (κ.base ⊕ n) w κ.control κ.frames)

@@ -81,12 +81,7 @@ module _ (P : Program) (E : ℕ) (r : Result) where
   -- two branches
   pub shift : (e : Scope) (κ : Place) (n k : ℕ) → ((w : Run) → Z.From P E r κ k w → Z.From P E r κ n w) → (x : Completion) → Z.After P E r e κ k x → Z.After P E r e κ n x
   shift e κ n k h (normal w) q = h w q
-  shift e κ n k h (missing w) q = q
-  shift e κ n k h (broke w) q = q
-  shift e κ n k h (again w) q = q
-  shift e κ n k h (returned w) q = q
-  shift e κ n k h (halted w) q = q
-  shift e κ n k h (out w) q = q
+  shift e κ n k h _ q = q
 
   pub branch_s : {e : Scope} {f g : Lowering} {u v : Walking} → Z.Sim P E r e f u → Z.Sim P E r e g v → Z.Sim P E r e (fork (guard jump_if_falsy) jump same f g) (conditional u v)
   unfolding settle relocate execute guard_action guard_up
@@ -115,11 +110,7 @@ module _ (P : Program) (E : ℕ) (r : Result) where
   unfolding otherwise missed cut
   otherwise_after e κ c n m k v h g (normal w) q = h w q
   otherwise_after e κ c n m k v h g (missing w) q = λ on. g (set_counts c w) q
-  otherwise_after e κ c n m k v h g (broke w) q = q
-  otherwise_after e κ c n m k v h g (again w) q = q
-  otherwise_after e κ c n m k v h g (returned w) q = q
-  otherwise_after e κ c n m k v h g (halted w) q = q
-  otherwise_after e κ c n m k v h g (out w) q = q
+  otherwise_after e κ c n m k v h g _ q = q
 
   pub coalesce_s : {e : Scope} {f g : Lowering} {u v : Walking} → Z.Sim P E r (in_a_handler e) f u → Z.Sim P E r e g v → Z.Sim P E r e (fork handler_push handler_pop handler+ f g) (coalesce u v)
   unfolding settle relocate execute has_handler
@@ -154,12 +145,9 @@ module _ (P : Program) (E : ℕ) (r : Result) where
         → (y : Completion) → left y ≤ m → Z.After P E r e κ (suc l) (round x c next y) → Z.After P E r (in_a_loop e) (looping x k l c κ) n y
     unfolding round missed cut
     round_after m n next h i (normal w) j q = i w (h (loop x c ∷ κ.control) refl w j q)
-    round_after m n next h i (missing w) j q = q
     round_after m n next h i (broke w) j q = λ es p. end_ends es p w q
     round_after m n next h i (again w) j q = λ es p. h es p w j q
-    round_after m n next h i (returned w) j q = q
-    round_after m n next h i (halted w) j q = q
-    round_after m n next h i (out w) j q = q
+    round_after m n next h i _ j q = q
 
   module _ (e : Scope) (κ : Place) (c : Counts) (n k : ℕ) (at_check : code_at P (κ.base ⊕ k) ≡ loop_check (κ.base ⊕ n)) (at_end : code_at P (κ.base ⊕ suc k) ≡ loop_end) where
     check_ok : (m : ℕ) (more : Walking) → ((w : Run) → suc (length w.outcomes) ≤ m → Z.After P E r e κ (suc (suc k)) (more w) → Z.From P E r (looping true k (suc k) c κ) n w) → NextOk e κ true c k (suc k) at_end m (checks c more)
@@ -188,8 +176,7 @@ module _ (P : Program) (E : ℕ) (r : Result) where
   unfolding settle relocate
   aim_has κ x k l n [] c h = tt
   aim_has κ x k l n (instr i ∷ d) c h = (h.0, aim_has κ x k l (suc n) d c h.1)
-  aim_has κ x k l n (to_cleanup ∷ d) c h = (h.0, aim_has κ x k l (suc n) d c h.1)
-  aim_has κ x k l n (to_check ∷ d) c h = (h.0, aim_has κ x k l (suc n) d c h.1)
+  aim_has κ x k l n (_ ∷ d) c h = (h.0, aim_has κ x k l (suc n) d c h.1)
 
   pub looped_s : {e : Scope} {f : Lowering} {u : Walking} → Less u → Z.Sim P E r (in_a_loop e) f u → Z.Sim P E r e (Q.counted_loop f) (K.counted_loop u)
   unfolding settle relocate execute has_handler

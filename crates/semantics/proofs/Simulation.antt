@@ -1,6 +1,6 @@
 use mathlib.Core.Path.{◌≡◌, refl, ap, sym, ◌∙◌, subst}
 use mathlib.Core.Bool.{Bool, true, false, cond}
-use mathlib.Core.List.{List, [], ◌∷◌, ◌++◌, map, append-nil, append_assoc}
+use mathlib.Core.List.{List, [], ◌∷◌, ◌++◌, map, map-append, append-nil, append_assoc}
 use mathlib.Core.Option.{Option, none}
 use Prim.Native.Nat.{ℕ, suc}
 use native.Mathlib.Decide.{ℕ_discrete}
@@ -9,13 +9,13 @@ use Rattle.numeric.specs.Post.{Post, identity, is_identity}
 use Rattle.program.specs.Instruction.{post, Plain, Taking, Instruction, plain, taking}
 use Rattle.program.specs.Program.{name_at, Counts, MemberStore, Program, code_at, const_at, post_at, hash_at, slot_at, member_at, store_at, call_at}
 use Rattle.semantics.proofs.Bounds.{refused}
-use Rattle.semantics.proofs.Positions.{Holds, past_map, map_append, past_append, past_length, holds_left, holds_right, intern_grows, intern_has}
+use Rattle.semantics.proofs.Positions.{Holds, past_map, past_append, past_length, holds_left, holds_right, intern_grows, intern_has}
 use Rattle.semantics.specs.Link.{relocate, settle}
 use Rattle.semantics.specs.Machine.{loop, plain_action, taking_action, taken, Open, handler, Frame, machine, Next, go, stop, missed, cut, leave, execute, step, follow}
-use Rattle.semantics.specs.Pieces.{Lowered, Lowering, flush, put, nothing, failing, put_const, ◌⨾◌, pushed, flagged, itself, with_const, with_hash, hash_key, with_name, with_slot, with_temp, read_key, with_member, with_store, post_key, post_if, with_post, constant}
+use Rattle.semantics.specs.Pieces.{Lowered, Lowering, flush, put, nothing, failing, put_const, ◌⨾◌, pushed, flagged, itself, Pool, interned, const_pool, hash_pool, slot_pool, with_const, with_hash, hash_key, name_pool, with_name, with_slot, with_temp, read_key, member_pool, with_member, with_store, post_key, post_pool, post_if, with_post, constant}
 use Rattle.semantics.specs.Positions.{◌⊕◌, past, intern, pair_discrete}
 use Rattle.semantics.specs.Run.{e_const, e_post, e_push, Run, note, operand+, count, by_return, by_halt, by_out, Result, result}
-use Rattle.semantics.specs.State.{Item, CallInfo, MemberRead, Pools, set_consts, set_posts, set_hashes, set_names, set_temps, set_members, set_stores, Flags, State, set_pools, set_flags, raise, fail}
+use Rattle.semantics.specs.State.{Item, CallInfo, MemberRead, Pools, set_posts, set_stores, Flags, State, set_pools, set_flags, raise, fail}
 use Rattle.semantics.specs.Walk.{Completion, normal, missing, broke, again, returned, halted, out, Walking, Scope, after, ◌then◌, pass, logs, takes, pushes, shown}
 
 -- A piece of lowering and a piece of the walk on which the step machine agrees: the relation `Sim`, closed under every combinator.
@@ -81,10 +81,10 @@ module _ (P : Program) (E : ℕ) (r : Result) where
   Has κ n c = Holds (λ i. code_at P (κ.base ⊕ i)) n (map (settle κ.base κ.check_at κ.cleanup_at) c)
 
   pub has_left : (κ : Place) (n : ℕ) (c d : List Item) → Has κ n (c ++ d) → Has κ n c
-  has_left κ n c d h = holds_left (λ i. code_at P (κ.base ⊕ i)) n (map (settle κ.base κ.check_at κ.cleanup_at) c) (map (settle κ.base κ.check_at κ.cleanup_at) d) (rw map_append at h)
+  has_left κ n c d h = holds_left (λ i. code_at P (κ.base ⊕ i)) n (map (settle κ.base κ.check_at κ.cleanup_at) c) (map (settle κ.base κ.check_at κ.cleanup_at) d) (rw map-append at h)
 
   pub has_right : (κ : Place) (n : ℕ) (c d : List Item) → Has κ n (c ++ d) → Has κ (past c n) d
-  has_right κ n c d h = rw (past_map (settle κ.base κ.check_at κ.cleanup_at) c n) at (holds_right (λ i. code_at P (κ.base ⊕ i)) n (map (settle κ.base κ.check_at κ.cleanup_at) c) (map (settle κ.base κ.check_at κ.cleanup_at) d) (rw map_append at h))
+  has_right κ n c d h = rw (past_map (settle κ.base κ.check_at κ.cleanup_at) c n) at (holds_right (λ i. code_at P (κ.base ⊕ i)) n (map (settle κ.base κ.check_at κ.cleanup_at) c) (map (settle κ.base κ.check_at κ.cleanup_at) d) (rw map-append at h))
 
   -- the segments from o on, counted from the end of the main code
   abbrev pub SegsOk : ℕ → List (List Item) → Type 0
@@ -176,12 +176,7 @@ module _ (P : Program) (E : ℕ) (r : Result) where
   pub after_after : (e : Scope) (κ : Place) (n k : ℕ) (v : Walking) → ((w : Run) → After e κ k (v w) → From κ n w) → (x : Completion) → After e κ k (after v x) → After e κ n x
   unfolding after
   after_after e κ n k v h (normal w) q = h w q
-  after_after e κ n k v h (missing w) q = q
-  after_after e κ n k v h (broke w) q = q
-  after_after e κ n k v h (again w) q = q
-  after_after e κ n k v h (returned w) q = q
-  after_after e κ n k v h (halted w) q = q
-  after_after e κ n k v h (out w) q = q
+  after_after e κ n k v h _ q = q
 
   pub raised : (c : Counts) (s : State) → Step s (raise c s)
   raised c s = to s (raise c s) (λ x. x) refl
@@ -247,53 +242,32 @@ module _ (P : Program) (E : ℕ) (r : Result) where
   flagged_s k a = record { grow = λ c b n s. to s (set_flags (k s.flags) s) (λ x. x) refl ⟫ a.grow c b n _; sim = λ c b n s. a.sim c b n _ }
 
   -- the pools: a piece that shows what the program has at an index shows what was interned
-  pub known_const : (v : ℕ) (s : State) → Step s (set_pools (set_consts (intern itself ℕ_discrete v s.pools.consts) s.pools) s)
-  known_const v s = to s (set_pools (set_consts (intern itself ℕ_discrete v s.pools.consts) s.pools) s) (λ x. record { clean = x.clean; slot0 = x.slot0; hconsts = intern_grows itself ℕ_discrete itself (const_at P) v 0 s.pools.consts x.hconsts; hposts = x.hposts; hhashes = x.hhashes; hnames = x.hnames; htemps = x.htemps; hmembers = x.hmembers; hstores = x.hstores; hcalls = x.hcalls; hsegs = x.hsegs }) refl
-
-  pub with_const_s : {e : Scope} (v : ℕ) (g : ℕ → Lowering) (u : ℕ → Walking) → ((k : ℕ) → Sim e (g k) (u (const_at P k))) → Sim e (with_const v g) (u (itself v))
-  with_const_s {e} v g u h = record {
-    grow = λ c b n s. known_const v s ⟫ (h _).grow c b n _;
-    sim = λ c b n s x κ y z w q. (h _).sim c b n _ x κ y z w (shows e κ _ u (pre b w) (intern_has itself ℕ_discrete itself (const_at P) (λ a b p. p) v 0 s.pools.consts (((h _).grow c b n _).back x).hconsts) q);
-  }
-
-  pub known_hash : (v : ℕ) (s : State) → Step s (set_pools (set_hashes (intern itself ℕ_discrete v s.pools.hashes) s.pools) s)
-  known_hash v s = to s (set_pools (set_hashes (intern itself ℕ_discrete v s.pools.hashes) s.pools) s) (λ x. record { clean = x.clean; slot0 = x.slot0; hconsts = x.hconsts; hposts = x.hposts; hhashes = intern_grows itself ℕ_discrete itself (hash_at P) v 0 s.pools.hashes x.hhashes; hnames = x.hnames; htemps = x.htemps; hmembers = x.hmembers; hstores = x.hstores; hcalls = x.hcalls; hsegs = x.hsegs }) refl
-
-  pub with_hash_s : {e : Scope} (v : ℕ) (g : ℕ → Lowering) (u : ℕ → Walking) → ((k : ℕ) → Sim e (g k) (u (hash_at P k))) → Sim e (with_hash v g) (u (itself v))
-  with_hash_s {e} v g u h = record {
-    grow = λ c b n s. known_hash v s ⟫ (h _).grow c b n _;
-    sim = λ c b n s x κ y z w q. (h _).sim c b n _ x κ y z w (shows e κ _ u (pre b w) (intern_has itself ℕ_discrete itself (hash_at P) (λ a b p. p) v 0 s.pools.hashes (((h _).grow c b n _).back x).hhashes) q);
-  }
-
-  pub known_name : (v : Name) (s : State) → Step s (set_pools (set_names (intern hash_key ℕ_discrete v s.pools.names) s.pools) s)
-  known_name v s = to s (set_pools (set_names (intern hash_key ℕ_discrete v s.pools.names) s.pools) s) (λ x. record { clean = x.clean; slot0 = x.slot0; hconsts = x.hconsts; hposts = x.hposts; hhashes = x.hhashes; hnames = intern_grows hash_key ℕ_discrete hash_key (name_at P) v 0 s.pools.names x.hnames; htemps = x.htemps; hmembers = x.hmembers; hstores = x.hstores; hcalls = x.hcalls; hsegs = x.hsegs }) refl
-
-  pub with_name_s : {e : Scope} (v : Name) (g : ℕ → Lowering) (u : ℕ → Walking) → ((k : ℕ) → Sim e (g k) (u (name_at P k))) → Sim e (with_name v g) (u (hash_key v))
-  with_name_s {e} v g u h = record {
-    grow = λ c b n s. known_name v s ⟫ (h _).grow c b n _;
-    sim = λ c b n s x κ y z w q. (h _).sim c b n _ x κ y z w (shows e κ _ u (pre b w) (intern_has hash_key ℕ_discrete hash_key (name_at P) (λ a b p. p) v 0 s.pools.names (((h _).grow c b n _).back x).hnames) q);
-  }
-
-  pub known_slot : (v : ℕ) (s : State) → Step s (set_pools (set_temps (intern itself ℕ_discrete v s.pools.temps) s.pools) s)
-  known_slot v s = to s (set_pools (set_temps (intern itself ℕ_discrete v s.pools.temps) s.pools) s) (λ x. record { clean = x.clean; slot0 = x.slot0; hconsts = x.hconsts; hposts = x.hposts; hhashes = x.hhashes; hnames = x.hnames; htemps = intern_grows itself ℕ_discrete itself (slot_at P) v 0 s.pools.temps x.htemps; hmembers = x.hmembers; hstores = x.hstores; hcalls = x.hcalls; hsegs = x.hsegs }) refl
-
-  pub with_slot_s : {e : Scope} (v : ℕ) (g : ℕ → Lowering) (u : ℕ → Walking) → ((k : ℕ) → Sim e (g k) (u (slot_at P k))) → Sim e (with_slot v g) (u (itself v))
-  with_slot_s {e} v g u h = record {
-    grow = λ c b n s. known_slot v s ⟫ (h _).grow c b n _;
-    sim = λ c b n s x κ y z w q. (h _).sim c b n _ x κ y z w (shows e κ _ u (pre b w) (intern_has itself ℕ_discrete itself (slot_at P) (λ a b p. p) v 0 s.pools.temps (((h _).grow c b n _).back x).htemps) q);
-  }
-
-  pub known_member : (v : MemberRead) (s : State) → Step s (set_pools (set_members (intern read_key pair_discrete v s.pools.members) s.pools) s)
-  known_member v s = to s (set_pools (set_members (intern read_key pair_discrete v s.pools.members) s.pools) s) (λ x. record { clean = x.clean; slot0 = x.slot0; hconsts = x.hconsts; hposts = x.hposts; hhashes = x.hhashes; hnames = x.hnames; htemps = x.htemps; hmembers = intern_grows read_key pair_discrete own (member_at P) v 0 s.pools.members x.hmembers; hstores = x.hstores; hcalls = x.hcalls; hsegs = x.hsegs }) refl
-
-  pub with_member_s : {e : Scope} (v : MemberRead) (g : ℕ → Lowering) (u : ℕ → Walking) → ((k : ℕ) → Sim e (g k) (u (member_at P k))) → Sim e (with_member v g) (u (own v))
-  with_member_s {e} v g u h = record {
-    grow = λ c b n s. known_member v s ⟫ (h _).grow c b n _;
-    sim = λ c b n s x κ y z w q. (h _).sim c b n _ x κ y z w (shows e κ _ u (pre b w) (intern_has read_key pair_discrete own (member_at P) (λ a b p. ap (λ t. t.0) p) v 0 s.pools.members (((h _).grow c b n _).back x).hmembers) q);
-  }
-
   pub known_post : (v : Post) (s : State) → Step s (set_pools (set_posts (intern post_key pair_discrete v s.pools.posts) s.pools) s)
   known_post v s = to s (set_pools (set_posts (intern post_key pair_discrete v s.pools.posts) s.pools) s) (λ x. record { clean = x.clean; slot0 = x.slot0; hconsts = x.hconsts; hposts = intern_grows post_key pair_discrete self (λ i. post_at P (suc i)) v 0 s.pools.posts x.hposts; hhashes = x.hhashes; hnames = x.hnames; htemps = x.htemps; hmembers = x.hmembers; hstores = x.hstores; hcalls = x.hcalls; hsegs = x.hsegs }) refl
+
+  interned_s : {e : Scope} {A K B : Type 0} (pool : Pool A K) (shown_as : A → B) (f : ℕ → B) → ((a b : A) → pool.key a ≡ pool.key b → shown_as a ≡ shown_as b) → (v : A)
+      → ((s : State) → Step s (set_pools (pool.set (intern pool.key pool.dec v (pool.get s.pools)) s.pools) s))
+      → ((s : State) → Ext (set_pools (pool.set (intern pool.key pool.dec v (pool.get s.pools)) s.pools) s) → Holds f 0 (map shown_as (intern pool.key pool.dec v (pool.get s.pools))))
+      → (g : ℕ → Lowering) (u : B → Walking) → ((k : ℕ) → Sim e (g k) (u (f k))) → Sim e (interned pool v g) (u (shown_as v))
+  interned_s {e} pool shown_as f i v grown held g u h = record {
+    grow = λ c b n s. grown s ⟫ (h _).grow c b n _;
+    sim = λ c b n s x κ y z w q. (h _).sim c b n _ x κ y z w (shows e κ _ u (pre b w) (intern_has pool.key pool.dec shown_as f i v 0 (pool.get s.pools) (held s (((h _).grow c b n _).back x))) q);
+  }
+
+  pub with_const_s : {e : Scope} (v : ℕ) (g : ℕ → Lowering) (u : ℕ → Walking) → ((k : ℕ) → Sim e (g k) (u (const_at P k))) → Sim e (with_const v g) (u (itself v))
+  with_const_s v = interned_s const_pool itself (const_at P) (λ a b p. p) v (λ s. to s _ (λ x. record { clean = x.clean; slot0 = x.slot0; hconsts = intern_grows itself ℕ_discrete itself (const_at P) v 0 s.pools.consts x.hconsts; hposts = x.hposts; hhashes = x.hhashes; hnames = x.hnames; htemps = x.htemps; hmembers = x.hmembers; hstores = x.hstores; hcalls = x.hcalls; hsegs = x.hsegs }) refl) (λ s x. x.hconsts)
+
+  pub with_hash_s : {e : Scope} (v : ℕ) (g : ℕ → Lowering) (u : ℕ → Walking) → ((k : ℕ) → Sim e (g k) (u (hash_at P k))) → Sim e (with_hash v g) (u (itself v))
+  with_hash_s v = interned_s hash_pool itself (hash_at P) (λ a b p. p) v (λ s. to s _ (λ x. record { clean = x.clean; slot0 = x.slot0; hconsts = x.hconsts; hposts = x.hposts; hhashes = intern_grows itself ℕ_discrete itself (hash_at P) v 0 s.pools.hashes x.hhashes; hnames = x.hnames; htemps = x.htemps; hmembers = x.hmembers; hstores = x.hstores; hcalls = x.hcalls; hsegs = x.hsegs }) refl) (λ s x. x.hhashes)
+
+  pub with_name_s : {e : Scope} (v : Name) (g : ℕ → Lowering) (u : ℕ → Walking) → ((k : ℕ) → Sim e (g k) (u (name_at P k))) → Sim e (with_name v g) (u (hash_key v))
+  with_name_s v = interned_s name_pool hash_key (name_at P) (λ a b p. p) v (λ s. to s _ (λ x. record { clean = x.clean; slot0 = x.slot0; hconsts = x.hconsts; hposts = x.hposts; hhashes = x.hhashes; hnames = intern_grows hash_key ℕ_discrete hash_key (name_at P) v 0 s.pools.names x.hnames; htemps = x.htemps; hmembers = x.hmembers; hstores = x.hstores; hcalls = x.hcalls; hsegs = x.hsegs }) refl) (λ s x. x.hnames)
+
+  with_slot_s : {e : Scope} (v : ℕ) (g : ℕ → Lowering) (u : ℕ → Walking) → ((k : ℕ) → Sim e (g k) (u (slot_at P k))) → Sim e (with_slot v g) (u (itself v))
+  with_slot_s v = interned_s slot_pool itself (slot_at P) (λ a b p. p) v (λ s. to s _ (λ x. record { clean = x.clean; slot0 = x.slot0; hconsts = x.hconsts; hposts = x.hposts; hhashes = x.hhashes; hnames = x.hnames; htemps = intern_grows itself ℕ_discrete itself (slot_at P) v 0 s.pools.temps x.htemps; hmembers = x.hmembers; hstores = x.hstores; hcalls = x.hcalls; hsegs = x.hsegs }) refl) (λ s x. x.htemps)
+
+  pub with_member_s : {e : Scope} (v : MemberRead) (g : ℕ → Lowering) (u : ℕ → Walking) → ((k : ℕ) → Sim e (g k) (u (member_at P k))) → Sim e (with_member v g) (u (own v))
+  with_member_s v = interned_s member_pool own (member_at P) (λ a b p. ap (λ t. t.0) p) v (λ s. to s _ (λ x. record { clean = x.clean; slot0 = x.slot0; hconsts = x.hconsts; hposts = x.hposts; hhashes = x.hhashes; hnames = x.hnames; htemps = x.htemps; hmembers = intern_grows read_key pair_discrete own (member_at P) v 0 s.pools.members x.hmembers; hstores = x.hstores; hcalls = x.hcalls; hsegs = x.hsegs }) refl) (λ s x. x.hmembers)
 
   pub post_if_s : {e : Scope} (x : Bool) (v : Post) (g : ℕ → Lowering) (u : Post → Walking) → ((k : ℕ) → Sim e (g k) (u (post_at P k))) → Sim e (post_if x v g) (u (cond x identity v))
   unfolding post_if
@@ -301,10 +275,7 @@ module _ (P : Program) (E : ℕ) (r : Result) where
     grow = λ c b n s. (h 0).grow c b n s;
     sim = λ c b n s x κ y z w q. (h 0).sim c b n s x κ y z w (shows e κ _ u (pre b w) (((h 0).grow c b n s).back x).slot0 q);
   }
-  post_if_s {e} false v g u h = record {
-    grow = λ c b n s. known_post v s ⟫ (h _).grow c b n _;
-    sim = λ c b n s x κ y z w q. (h _).sim c b n _ x κ y z w (shows e κ _ u (pre b w) (intern_has post_key pair_discrete self (λ i. post_at P (suc i)) (λ a b p i. record { scale = (p i).0; offset = (p i).1 }) v 0 s.pools.posts (((h _).grow c b n _).back x).hposts) q);
-  }
+  post_if_s false v g u h = interned_s post_pool self (λ i. post_at P (suc i)) (λ a b p i. record { scale = (p i).0; offset = (p i).1 }) v (known_post v) (λ s x. x.hposts) (λ k. g (suc k)) u (λ k. h (suc k))
 
   pub with_post_s : {e : Scope} (v : Post) (g : ℕ → Lowering) (u : Post → Walking) → ((k : ℕ) → Sim e (g k) (u (post_at P k))) → Sim e (with_post v g) (u (shown v))
   unfolding shown
@@ -313,12 +284,9 @@ module _ (P : Program) (E : ℕ) (r : Result) where
   pub with_temp_s : {e : Scope} (v : Name) (g : ℕ → Lowering) (u : ℕ → Walking) → ((k : ℕ) → Sim e (g k) (u (name_at P (slot_at P k)))) → Sim e (with_temp v g) (u v.hash)
   with_temp_s v g u h = flagged_s _ (with_name_s v (λ k. with_slot k g) u (λ k. with_slot_s k g (λ t. u (name_at P t)) h))
 
-  pub known_store : (v : MemberStore) (s : State) → Step s (set_pools (set_stores (s.pools.stores ++ (v ∷ [])) s.pools) s)
-  known_store v s = to s (set_pools (set_stores (s.pools.stores ++ (v ∷ [])) s.pools) s) (λ x. record { clean = x.clean; slot0 = x.slot0; hconsts = x.hconsts; hposts = x.hposts; hhashes = x.hhashes; hnames = x.hnames; htemps = x.htemps; hmembers = x.hmembers; hstores = holds_left (store_at P) 0 s.pools.stores (v ∷ []) x.hstores; hcalls = x.hcalls; hsegs = x.hsegs }) refl
-
   pub with_store_s : {e : Scope} (v : MemberStore) (g : ℕ → Lowering) (u : MemberStore → Walking) → ((k : ℕ) → Sim e (g k) (u (store_at P k))) → Sim e (with_store v g) (u v)
   with_store_s {e} v g u h = record {
-    grow = λ c b n s. known_store v s ⟫ (h _).grow c b n _;
+    grow = λ c b n s. to s (set_pools (set_stores (s.pools.stores ++ (v ∷ [])) s.pools) s) (λ x. record { clean = x.clean; slot0 = x.slot0; hconsts = x.hconsts; hposts = x.hposts; hhashes = x.hhashes; hnames = x.hnames; htemps = x.htemps; hmembers = x.hmembers; hstores = holds_left (store_at P) 0 s.pools.stores (v ∷ []) x.hstores; hcalls = x.hcalls; hsegs = x.hsegs }) refl ⟫ (h _).grow c b n _;
     sim = λ c b n s x κ y z w q. (h _).sim c b n _ x κ y z w (shows e κ _ u (pre b w) (ap (store_at P) (sym (past_length s.pools.stores)) ∙ (holds_right (store_at P) 0 s.pools.stores (v ∷ []) (((h _).grow c b n _).back x).hstores).0) q);
   }
 

@@ -3,12 +3,13 @@ use mathlib.Core.Path.{◌≡◌, refl}
 use mathlib.Core.List.{List, [], ◌∷◌, map}
 use Prim.Native.Nat.{ℕ, suc, ◌≤◌, ◌+◌, ◌*◌}
 use native.Mathlib.Omega.{arith}
-use native.Mathlib.Nat.{mul-suc, mul-zero, mul-add}
+use native.Mathlib.Nat.{mul-zero, mul-add}
 use lib.ListN.{length, length-map}
-use Rattle.ast.specs.Tree.{Name, Payload, p_none, p_float, p_hash, p_math, p_name, p_query, Tree, node, Forest, nil, cons}
+use Rattle.ast.specs.Tree.{Name, Payload, p_name, Tree, node, Forest, nil, cons}
 use Rattle.program.specs.Program.{MemberStore, Program}
-use Rattle.semantics.proofs.CostedRules.{pay, own, cost, costs, sized}
-use Rattle.semantics.proofs.Costs.{Weight, weigh, weigh_append, weigh_map, stored, asked, apart, sz}
+use Rattle.semantics.proofs.CostedRules.{named, pay, own, cost, costs, sized}
+use Rattle.semantics.proofs.Costs.{Weight, sum, weigh, weigh_append, weigh_map, count_least, store_weight, call_weight, sz, size}
+pub use Rattle.semantics.proofs.Costs.{weigh_length}
 use Rattle.semantics.specs.Link.{settle, place_segments, offsets_of, place_call, member_entry, lowered, link, program}
 use Rattle.semantics.specs.Pieces.{Lowered}
 use Rattle.semantics.specs.Positions.{◌⊕◌, past}
@@ -65,93 +66,47 @@ module _ (a b : ℕ) (m n : Payload → ℕ) (each : (v : Payload) → a * m v �
 pub nodes_bytes : (t : Tree) → 16 * nodes t ≤ bytes t
 nodes_bytes t = let h = scaled 16 1 (λ v. 1) held (λ v. omega arith) t in omega arith
 
-pub weigh_length : {A : Type 0} (k : ℕ) (xs : List A) → weigh k xs ≡ k * length xs
-weigh_length k [] = omega (arith, mul-zero k)
-weigh_length k (x ∷ xs) = let h = weigh_length k xs in let e = mul-suc k (length xs) in omega arith
+abbrev nothing : Weight
+nothing = record { i = 0; co = 0; po = 0; ha = 0; na = λ n. 0; te = 0; me = λ n. 0; sa = 0; sm = 0; pa = 0; ca = 0; ar = 0 }
 
-abbrev w_code : Weight
-w_code = record { i = 1; co = 0; po = 0; ha = 0; na = λ n. 0; te = 0; me = λ n. 0; sa = 0; sm = 0; pa = 0; ca = 0; ar = 0 }
+-- a tree's lowering weighs no more than its nodes pay
+pub weighed : (w : Weight) (m : Payload → ℕ) → ((v : Payload) → own w + pay w v + w.i + w.ar ≤ m v) → (S : Settings) (t : Tree) → weigh w.i (lowered S t).code + size w (lowered S t).state + w.ar ≤ mass m t
+weighed w m enough S t = let h = sized w S t in let i = all_paid w m enough t in omega arith
 
-abbrev w_const : Weight
-w_const = record { i = 0; co = 1; po = 0; ha = 0; na = λ n. 0; te = 0; me = λ n. 0; sa = 0; sm = 0; pa = 0; ca = 0; ar = 0 }
+-- k for each node
+free : (w : Weight) (k : ℕ) → own w + w.i + w.ar ≤ k → ((n : Name) → named w n ≤ 0) → (v : Payload) → own w + pay w v + w.i + w.ar ≤ k
+unfolding pay
+free w k e h (p_name j n) = let i = h n in omega arith
+free w k e h _ = omega arith
 
-abbrev w_post : Weight
-w_post = record { i = 0; co = 0; po = 1; ha = 0; na = λ n. 0; te = 0; me = λ n. 0; sa = 0; sm = 0; pa = 0; ca = 0; ar = 0 }
+-- at most 16 for a node, and 25 for one with a name
+dear : (w : Weight) → own w + w.i + w.ar ≤ 16 → ((n : Name) → own w + w.i + w.ar + named w n ≤ 25) → (v : Payload) → own w + pay w v + w.i + w.ar ≤ held v
+unfolding pay
+dear w e h (p_name j n) = let i = h n in omega arith
+dear w e h _ = omega arith
 
-abbrev w_hash : Weight
-w_hash = record { i = 0; co = 0; po = 0; ha = 1; na = λ n. 0; te = 0; me = λ n. 0; sa = 0; sm = 0; pa = 0; ca = 0; ar = 0 }
-
-abbrev w_name : Weight
-w_name = record { i = 0; co = 0; po = 0; ha = 0; na = λ n. 25; te = 0; me = λ n. 0; sa = 0; sm = 0; pa = 0; ca = 0; ar = 0 }
-
-abbrev w_temp : Weight
-w_temp = record { i = 0; co = 0; po = 0; ha = 0; na = λ n. 0; te = 25; me = λ n. 0; sa = 0; sm = 0; pa = 0; ca = 0; ar = 0 }
-
-abbrev w_member : Weight
-w_member = record { i = 0; co = 0; po = 0; ha = 0; na = λ n. 0; te = 0; me = λ n. 25; sa = 0; sm = 0; pa = 0; ca = 0; ar = 0 }
-
--- an assignment's node and its target's
-abbrev w_store : Weight
-w_store = record { i = 0; co = 0; po = 0; ha = 0; na = λ n. 0; te = 0; me = λ n. 0; sa = 16; sm = 9; pa = 0; ca = 0; ar = 0 }
-
-abbrev w_path : Weight
-w_path = record { i = 0; co = 0; po = 0; ha = 0; na = λ n. 0; te = 0; me = λ n. 0; sa = 0; sm = 0; pa = 25; ca = 0; ar = 0 }
-
-abbrev w_call : Weight
-w_call = record { i = 0; co = 0; po = 0; ha = 0; na = λ n. 0; te = 0; me = λ n. 0; sa = 0; sm = 0; pa = 0; ca = 1; ar = 0 }
-
-abbrev w_arg : Weight
-w_arg = record { i = 0; co = 0; po = 0; ha = 0; na = λ n. 0; te = 0; me = λ n. 0; sa = 0; sm = 0; pa = 0; ca = 0; ar = 1 }
-
-stores_count : (xs : List MemberStore) → 41 * length xs ≤ stored w_store xs
-stores_count [] = omega arith
-stores_count (v ∷ vs) = let h = stores_count vs in omega arith
-
-paths_count : (xs : List MemberStore) → stored w_path xs ≡ 25 * path_entries xs
+paths_count : (xs : List MemberStore) → sum (store_weight (record nothing { pa = 25 })) xs ≡ 25 * path_entries xs
 paths_count [] = omega arith
 paths_count (v ∷ vs) = let h = paths_count vs in let i = weigh_length 25 v.path in omega arith
 
-calls_count : (xs : List CallInfo) → length xs ≤ asked w_call xs
-calls_count [] = omega arith
-calls_count (v ∷ vs) = let h = calls_count vs in omega arith
-
-args_count : (b : ℕ) (xs : List CallInfo) → argument_starts (map (place_call b) xs) ≡ asked w_arg xs
+args_count : (b : ℕ) (xs : List CallInfo) → argument_starts (map (place_call b) xs) ≡ sum (call_weight (record nothing { ar = 1 })) xs
 unfolding place_call
 args_count b [] = refl
 args_count b (v ∷ vs) = let h = args_count b vs in let i = weigh_length 1 (offsets_of v.offsets) in let j = length-map (offsets_of v.offsets) (b ⊕◌) in omega arith
 
 -- code weighs the same where it is placed
-placed_weigh : (w : Weight) (b : ℕ) (cs : List (List Item)) → weigh w.i (place_segments cs b) ≡ apart w cs
+placed_weigh : (w : Weight) (b : ℕ) (cs : List (List Item)) → weigh w.i (place_segments cs b) ≡ sum (weigh w.i) cs
 unfolding place_segments
 placed_weigh w b [] = refl
 placed_weigh w b (c ∷ cs) = let h = placed_weigh w (past c b) cs in let i = weigh_map w.i (settle b 0 0) c in let k = weigh_append w.i (map (settle b 0 0) c) (place_segments cs (past c b)) in omega arith
 
-pub code_weigh : (w : Weight) (x : Lowered) → weigh w.i (link x).code ≡ weigh w.i x.code + apart w x.state.pools.segments
+pub code_weigh : (w : Weight) (x : Lowered) → weigh w.i (link x).code ≡ weigh w.i x.code + sum (weigh w.i) x.state.pools.segments
 unfolding link
 code_weigh w x =
     let b = past x.code 0 in
     let h = placed_weigh w b x.state.pools.segments in
     let i = weigh_map w.i (settle 0 0 0) x.code in
     let j = weigh_append w.i (map (settle 0 0 0) x.code) (place_segments x.state.pools.segments b) in omega arith
-
--- what a payload pays: nothing, or at most 25 for a name
-free : (w : Weight) → ((n : Name) → w.na n + w.te + w.me n + w.sm + w.pa ≤ 0) → (v : Payload) → pay w v ≤ 0
-unfolding pay
-free w h p_none = omega arith
-free w h (p_float v) = omega arith
-free w h (p_hash v) = omega arith
-free w h (p_math v) = omega arith
-free w h (p_query i m) = omega arith
-free w h (p_name k n) = let i = h n in omega arith
-
-dear : (w : Weight) (o : ℕ) → ((n : Name) → w.na n + w.te + w.me n + w.sm + w.pa + o ≤ 25) → o ≤ 16 → (v : Payload) → o + pay w v ≤ held v
-unfolding pay
-dear w o h j p_none = omega arith
-dear w o h j (p_float v) = omega arith
-dear w o h j (p_hash v) = omega arith
-dear w o h j (p_math v) = omega arith
-dear w o h j (p_query k m) = omega arith
-dear w o h j (p_name k n) = let i = h n in omega arith
 
 -- THE SIZES
 pub record Sizes (n m : ℕ) (P : Program) : Type 0 where
@@ -168,59 +123,28 @@ pub record Sizes (n m : ℕ) (P : Program) : Type 0 where
   pub paths : 25 * path_entries P.stores ≤ m
 
 module _ (S : Settings) (t : Tree) where
-  code_size : length (program S t).code ≤ 3 * nodes t
-  unfolding program sz pay
-  code_size =
-      let h = sized w_code S t in
-      let i = all_paid w_code (λ v. 3) (λ v. let f = free w_code (λ n. omega arith) v in omega arith) t in
-      let j = scaled 1 3 (λ v. 3) (λ v. 1) (λ v. omega arith) t in
-      let k = code_weigh w_code (lowered S t) in
-      let o = weigh_length 1 (link (lowered S t)).code in omega arith
+  by_nodes : (w : Weight) (k : ℕ) → own w + w.i + w.ar ≤ k → ((n : Name) → named w n ≤ 0) → weigh w.i (lowered S t).code + size w (lowered S t).state ≤ mass (λ v. k) t
+  by_nodes w k e h = let i = weighed w (λ v. k) (free w k e h) S t in omega arith
 
-  const_size : length (program S t).consts ≤ nodes t
-  unfolding program link sz
-  const_size = let h = sized w_const S t in let i = all_paid w_const (λ v. 1) (λ v. let f = free w_const (λ n. omega arith) v in omega arith) t in let o = weigh_length 1 (lowered S t).state.pools.consts in omega arith
-
-  post_size : length (program S t).posts ≤ suc (nodes t)
-  unfolding program link sz
-  post_size = let h = sized w_post S t in let i = all_paid w_post (λ v. 1) (λ v. let f = free w_post (λ n. omega arith) v in omega arith) t in let o = weigh_length 1 (lowered S t).state.pools.posts in omega arith
-
-  call_size : length (program S t).calls ≤ nodes t
-  unfolding program link sz
-  call_size =
-      let x = lowered S t in
-      let h = sized w_call S t in
-      let i = all_paid w_call (λ v. 1) (λ v. let f = free w_call (λ n. omega arith) v in omega arith) t in
-      let j = calls_count x.state.pools.calls in
-      let k = length-map x.state.pools.calls (place_call (past x.code 0)) in omega arith
-
-  arg_size : argument_starts (program S t).calls ≤ nodes t
-  unfolding program link sz
-  arg_size = let x = lowered S t in let h = sized w_arg S t in let i = all_paid w_arg (λ v. 1) (λ v. let f = free w_arg (λ n. omega arith) v in omega arith) t in let j = args_count (past x.code 0) x.state.pools.calls in omega arith
-
-  name_size : 25 * length (program S t).names ≤ bytes t
-  unfolding program link sz
-  name_size = let h = sized w_name S t in let i = all_paid w_name held (λ v. let f = dear w_name 0 (λ n. omega arith) (omega arith) v in omega arith) t in let o = weigh_length 25 (lowered S t).state.pools.names in omega arith
-
-  temp_size : 25 * length (program S t).temps ≤ bytes t
-  unfolding program link sz
-  temp_size = let h = sized w_temp S t in let i = all_paid w_temp held (λ v. let f = dear w_temp 0 (λ n. omega arith) (omega arith) v in omega arith) t in let o = weigh_length 25 (lowered S t).state.pools.temps in omega arith
-
-  member_size : 25 * length (program S t).members ≤ bytes t
-  unfolding program link sz
-  member_size = let h = sized w_member S t in let i = all_paid w_member held (λ v. let f = dear w_member 0 (λ n. omega arith) (omega arith) v in omega arith) t in let o = weigh_length 25 (lowered S t).state.pools.members in let k = length-map (lowered S t).state.pools.members member_entry in omega arith
-
-  store_size : 41 * length (program S t).stores ≤ bytes t
-  unfolding program link sz
-  store_size = let h = sized w_store S t in let i = all_paid w_store held (λ v. let f = dear w_store 16 (λ n. omega arith) (omega arith) v in omega arith) t in let o = stores_count (lowered S t).state.pools.stores in omega arith
-
-  path_size : 25 * path_entries (program S t).stores ≤ bytes t
-  unfolding program link sz
-  path_size = let h = sized w_path S t in let i = all_paid w_path held (λ v. let f = dear w_path 0 (λ n. omega arith) (omega arith) v in omega arith) t in let o = paths_count (lowered S t).state.pools.stores in omega arith
-
-  hash_size : length (program S t).hashes ≤ nodes t
-  unfolding program link sz
-  hash_size = let h = sized w_hash S t in let i = all_paid w_hash (λ v. 1) (λ v. let f = free w_hash (λ n. omega arith) v in omega arith) t in let o = weigh_length 1 (lowered S t).state.pools.hashes in omega arith
+  by_bytes : (w : Weight) → own w + w.i + w.ar ≤ 16 → ((n : Name) → own w + w.i + w.ar + named w n ≤ 25) → weigh w.i (lowered S t).code + size w (lowered S t).state ≤ bytes t
+  by_bytes w e h = let i = weighed w held (dear w e h) S t in omega arith
 
   pub sizes : Sizes (nodes t) (bytes t) (program S t)
-  sizes = record { code = code_size; consts = const_size; posts = post_size; hashes = hash_size; calls = call_size; args = arg_size; names = name_size; temps = temp_size; members = member_size; stores = store_size; paths = path_size }
+  unfolding program link sz
+  sizes =
+      let x = lowered S t in
+      let s = x.state.pools in
+      let b = past x.code 0 in
+      record {
+        code = omega (arith, by_nodes (record nothing { i = 1 }) 3 (omega arith) (λ n. omega arith), scaled 1 3 (λ v. 3) (λ v. 1) (λ v. omega arith) t, code_weigh (record nothing { i = 1 }) x, weigh_length 1 (link x).code);
+        consts = omega (arith, by_nodes (record nothing { co = 1 }) 1 (omega arith) (λ n. omega arith), weigh_length 1 s.consts);
+        posts = omega (arith, by_nodes (record nothing { po = 1 }) 1 (omega arith) (λ n. omega arith), weigh_length 1 s.posts);
+        hashes = omega (arith, by_nodes (record nothing { ha = 1 }) 1 (omega arith) (λ n. omega arith), weigh_length 1 s.hashes);
+        calls = omega (arith, by_nodes (record nothing { ca = 1 }) 1 (omega arith) (λ n. omega arith), count_least 1 (call_weight (record nothing { ca = 1 })) (λ v. omega arith) s.calls, length-map s.calls (place_call b));
+        args = omega (arith, by_nodes (record nothing { ar = 1 }) 1 (omega arith) (λ n. omega arith), args_count b s.calls);
+        names = omega (arith, by_bytes (record nothing { na = λ n. 25 }) (omega arith) (λ n. omega arith), weigh_length 25 s.names);
+        temps = omega (arith, by_bytes (record nothing { te = 25 }) (omega arith) (λ n. omega arith), weigh_length 25 s.temps);
+        members = omega (arith, by_bytes (record nothing { me = λ n. 25 }) (omega arith) (λ n. omega arith), weigh_length 25 s.members, length-map s.members member_entry);
+        stores = omega (arith, by_bytes (record nothing { sa = 16; sm = 9 }) (omega arith) (λ n. omega arith), count_least 41 (store_weight (record nothing { sa = 16; sm = 9 })) (λ v. omega arith) s.stores);
+        paths = omega (arith, by_bytes (record nothing { pa = 25 }) (omega arith) (λ n. omega arith), paths_count s.stores);
+      }

@@ -1,58 +1,21 @@
-// The fields of the node that begins at a place of a tree image. Past the end every byte reads 0, and no place lies past the end.
+// A node of a tree image, by the place where it begins. Past the end every byte reads 0, and no place lies past the end.
 #![tactic(auto)]
 
 ghost use Rattle.std.specs.Prelude.{◌≡◌, ◌<◌, ◌≤◌, length};
 ghost use Rattle.wire.specs.Bytes.{reach};
+ghost use Rattle.ast.specs.Rules.{rule_of};
 ghost use Rattle.ast.specs.Node.{len_at, op_at, scale_at, offset_at, kind_at, size_of, size_at, count_at, first_at, next_at};
+ghost use Rattle.tree.specs.Nodes.{bytes};
 
 use ast::kinds::Kind;
 
-// The length of the node's rest.
-pub fn length_at(s: &[u8], p: usize) -> u32
-    ensures { result ≡ len_at s.now p }
-{
-    wire::get_u32(s, p, 0)
+#[derive(Clone, Copy, Drop)]
+pub struct Node<'a> {
+    pub image: &'a &'a [u8],
+    pub at: usize,
 }
 
-// The operator code.
-pub fn op_at(s: &[u8], p: usize) -> u8
-    ensures { result ≡ op_at s.now p }
-{
-    wire::get_u8(s, p, 4)
-}
-
-// The bits of the post's scale.
-pub fn scale_at(s: &[u8], p: usize) -> u32
-    ensures { result ≡ scale_at s.now p }
-{
-    wire::get_u32(s, p, 5)
-}
-
-// The bits of the post's offset.
-pub fn offset_at(s: &[u8], p: usize) -> u32
-    ensures { result ≡ offset_at s.now p }
-{
-    wire::get_u32(s, p, 9)
-}
-
-// The payload's kind.
-pub fn kind_at(s: &[u8], p: usize) -> u8
-    ensures { result ≡ kind_at s.now p }
-{
-    wire::get_u8(s, p, 13)
-}
-
-// The place `k` bytes behind `p`, or the end.
-pub fn place(s: &[u8], p: usize, k: usize) -> usize
-    ensures { (result ≡ reach s.now p k) × (result ≤ length s.now) }
-{
-    if s.len() <= p {
-        return s.len();
-    }
-    if k <= s.len() - p { p + k } else { s.len() }
-}
-
-// A name has its hash, its text's length and its text.
+// A name has its hash, its text's length and its text. Of any byte: what the image has need be no kind's.
 #[tactic(auto, unfolding(ast::specs::Node::size_of))]
 fn size_of(kind: u8, text: u8) -> u16
     ensures { (result ≡ size_of kind text) × (result < 265) }
@@ -68,30 +31,94 @@ fn size_of(kind: u8, text: u8) -> u16
     }
 }
 
-// The bytes that the payload takes.
-pub fn size_at(s: &[u8], p: usize) -> u16
-    ensures { (result ≡ size_at s.now p) × (result < 265) }
+// The place `k` bytes behind `p`, or the end.
+pub fn place(s: &[u8], p: usize, k: usize) -> usize
+    ensures { (result ≡ reach s.now p k) × (result ≤ length s.now) }
 {
-    size_of(kind_at(s, p), wire::get_u8(s, p, 22))
+    if s.len() <= p {
+        return s.len();
+    }
+    if k <= s.len() - p { p + k } else { s.len() }
 }
 
-// How many children the node has.
-pub fn count_at(s: &[u8], p: usize) -> u16
-    ensures { result ≡ count_at s.now p }
-{
-    wire::get_u16(s, p, 14 + size_at(s, p))
-}
+impl<'a> Node<'a> {
+    // The length of the node's rest.
+    pub fn length(self) -> u32
+        ensures { result ≡ len_at (bytes self.entry) self.entry.at }
+    {
+        wire::get_u32(*self.image, self.at, 0)
+    }
 
-// Where the first child begins.
-pub fn first_at(s: &[u8], p: usize) -> usize
-    ensures { (result ≡ first_at s.now p) × (result ≤ length s.now) }
-{
-    place(s, p, 16 + (size_at(s, p) as usize))
-}
+    // The operator code.
+    pub fn op(self) -> u8
+        ensures { result ≡ op_at (bytes self.entry) self.entry.at }
+    {
+        wire::get_u8(*self.image, self.at, 4)
+    }
 
-// Where what follows the node begins.
-pub fn next_at(s: &[u8], p: usize) -> usize
-    ensures { (result ≡ next_at s.now p) × (result ≤ length s.now) }
-{
-    place(s, p, 4 + (length_at(s, p) as usize))
+    // The operator's rule.
+    pub fn rule(self) -> u8
+        ensures { result ≡ rule_of (op_at (bytes self.entry) self.entry.at) }
+    {
+        ast::rule(self.op())
+    }
+
+    // The bits of the post's scale.
+    pub fn scale(self) -> u32
+        ensures { result ≡ scale_at (bytes self.entry) self.entry.at }
+    {
+        wire::get_u32(*self.image, self.at, 5)
+    }
+
+    // The bits of the post's offset.
+    pub fn offset(self) -> u32
+        ensures { result ≡ offset_at (bytes self.entry) self.entry.at }
+    {
+        wire::get_u32(*self.image, self.at, 9)
+    }
+
+    // The payload's kind.
+    pub fn kind(self) -> u8
+        ensures { result ≡ kind_at (bytes self.entry) self.entry.at }
+    {
+        wire::get_u8(*self.image, self.at, 13)
+    }
+
+    // What begins `k` bytes behind, or at the end.
+    pub fn behind(self, k: usize) -> Node<'a>
+        ensures { (result ≡ record { image = self.entry.image; at = reach (bytes self.entry) self.entry.at k }) × (result.at ≤ length (bytes self.entry)) }
+    {
+        Node {
+            image: self.image,
+            at: place(*self.image, self.at, k),
+        }
+    }
+
+    // The bytes that the payload takes.
+    pub fn size(self) -> u16
+        ensures { (result ≡ size_at (bytes self.entry) self.entry.at) × (result < 265) }
+    {
+        size_of(self.kind(), wire::get_u8(*self.image, self.at, 22))
+    }
+
+    // How many children the node has.
+    pub fn count(self) -> u16
+        ensures { result ≡ count_at (bytes self.entry) self.entry.at }
+    {
+        wire::get_u16(*self.image, self.at, 14 + self.size())
+    }
+
+    // The first child.
+    pub fn first(self) -> Node<'a>
+        ensures { (result ≡ record { image = self.entry.image; at = first_at (bytes self.entry) self.entry.at }) × (result.at ≤ length (bytes self.entry)) }
+    {
+        self.behind(16 + usize::from(self.size()))
+    }
+
+    // What stands behind the node. A usize has no `From` of a u32, so `as` widens it.
+    pub fn next(self) -> Node<'a>
+        ensures { (result ≡ record { image = self.entry.image; at = next_at (bytes self.entry) self.entry.at }) × (result.at ≤ length (bytes self.entry)) }
+    {
+        self.behind(4 + (self.length() as usize))
+    }
 }

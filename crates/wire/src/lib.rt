@@ -1,11 +1,11 @@
 // Big-endian numbers read in bytes. Past the end a byte reads 0.
 #![tactic(auto)]
 
-ghost use Rattle.std.specs.Prelude.{◌≡◌, ◌≤◌, IfSome};
+ghost use Rattle.std.specs.Prelude.{◌≡◌, ℕ, ◌+◌, get_or, IfSome};
 ghost use Rattle.wire.specs.Bytes.{be8, be16, be32, be64};
 ghost use Rattle.wire.specs.Reads.{AreAt};
 
-// The byte at `p + k`.
+// The byte at `p + k`. `as`, since a u32 has no `From` into a usize.
 pub fn get_u8(s: &[u8], p: usize, k: u32) -> u8
     ensures { result ≡ be8 s.now p k }
 {
@@ -19,24 +19,31 @@ pub fn get_u8(s: &[u8], p: usize, k: u32) -> u8
 fn chunk_at<const N: usize>(s: &[u8], p: usize, k: u16) -> Option<&[u8; N]>
     ensures { IfSome result (λ bytes. AreAt s.now p k N bytes.now) }
 {
-    s.get(p..)?.get(k as usize..)?.first_chunk()
+    s.get(p..)?.get(usize::from(k)..)?.first_chunk()
+}
+
+// The bytes from `p + k` on.
+fn rest_at(s: &[u8], p: usize, k: u16) -> &[u8]
+    ensures { (i : ℕ) → get_or result.now i 0 ≡ be8 s.now p (k + i) }
+{
+    let from = s.len().min(p.saturating_add(usize::from(k)));
+    &s[from..]
 }
 
 // The N bytes from `p + k` on, each by itself. A loop: `array::from_fn` ensures a step of its closure after another, which would take an induction.
 fn padded_at<const N: usize>(s: &[u8], p: usize, k: u16) -> [u8; N]
-    requires { N ≤ 8 }
     ensures { AreAt s.now p k N result }
 {
+    let rest = rest_at(s, p, k);
     let mut bytes = [0; N];
     for i in 0..N {
-        bytes[i] = get_u8(s, p, (k as u32) + (i as u32));
+        bytes[i] = rest.get(i).copied().unwrap_or(0);
     }
     bytes
 }
 
 // The same. The compiler makes one load of a whole chunk; padded in here, and not in a function of its own, the bytes would go through memory.
 fn bytes_at<const N: usize>(s: &[u8], p: usize, k: u16) -> [u8; N]
-    requires { N ≤ 8 }
     ensures { AreAt s.now p k N result }
 {
     match chunk_at(s, p, k) {

@@ -1,4 +1,4 @@
-// Counts of 16 bits: one that would be more than 65535 stays there.
+// Counts of 16 bits: one that would be more than 65535 stays there. The library's method, under the name that the definitions have.
 ghost use Rattle.std.specs.Prelude.{◌≡◌};
 ghost use Rattle.workspace.specs.Counts.{sum};
 

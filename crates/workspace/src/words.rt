@@ -28,14 +28,14 @@ pub fn put_pair(ws: &mut [u32], at: usize, a: u32, b: u32)
     }
 }
 
-// A target with a start added.
+// A target with a start added: the library's method, under the name that the definitions have.
 pub fn plus(a: u32, b: u32) -> u32
     ensures { result ≡ plus a b }
 {
     a.wrapping_add(b)
 }
 
-// The two words of a hash.
+// The two words of a hash. `as` cuts a number that fits: a `try_from` would have a case that never comes.
 pub fn high(h: u64) -> u32
     ensures { result ≡ high h }
 {

@@ -1,70 +1,70 @@
 -- The measures of the cycle, and what each of its loops keeps. A level outweighs all that one node's rule does without going a level down.
 use Rattle.std.proofs.Common.{◌≡◌, ◌+◌, ◌-◌, ◌*◌}
-use Rattle.ast.specs.Node.{offset_at, count_at, first_at}
-use Rattle.builder.specs.Steps.{Held}
+use Rattle.ast.specs.Node.{offset_at, count_at, first_at, next_at}
+use Rattle.lowering.specs.Held.{Held}
 use Rattle.builder.specs.Done.{held}
 use Rattle.lowering.specs.Rules as R
 use Rattle.lowering.proofs.+expression.Given as goal
 
 abbrev pub decreases-expr : goal.decreases-expr
-decreases-expr l = 200000 * l.levels
+decreases-expr l = 200000 * l.inside.levels
 
 abbrev pub decreases-element : goal.decreases-element
-decreases-element l = 200000 * l.levels + 80000
+decreases-element l = 200000 * l.inside.levels + 80000
 
 abbrev pub decreases-chain : goal.decreases-chain
-decreases-chain l = 200000 * l.levels + 1
+decreases-chain l = 200000 * l.inside.levels + 1
 
 abbrev pub decreases-member : goal.decreases-member
-decreases-member l = 200000 * l.levels + 80000
+decreases-member l = 200000 * l.inside.levels + 80000
 
 abbrev pub decreases-assignment : goal.decreases-assignment
-decreases-assignment l = 200000 * l.levels + 80000
+decreases-assignment l = 200000 * l.inside.levels + 80000
 
 abbrev pub decreases-rhs : goal.decreases-rhs
-decreases-rhs l = 200000 * l.levels + 70000
+decreases-rhs l = 200000 * l.inside.levels + 70000
 
 abbrev pub decreases-binary : goal.decreases-binary
-decreases-binary l = 200000 * l.levels + 70000
+decreases-binary l = 200000 * l.inside.levels + 70000
 
 abbrev pub decreases-compare : goal.decreases-compare
-decreases-compare l = 200000 * l.levels + 80000
+decreases-compare l = 200000 * l.inside.levels + 80000
 
 abbrev pub decreases-equal : goal.decreases-equal
-decreases-equal l = 200000 * l.levels + 80000
+decreases-equal l = 200000 * l.inside.levels + 80000
 
 abbrev pub decreases-logic : goal.decreases-logic
-decreases-logic l = 200000 * l.levels + 80000
+decreases-logic l = 200000 * l.inside.levels + 80000
 
 abbrev pub decreases-ops : goal.decreases-ops
-decreases-ops l = 200000 * l.levels + 2 + l.m
+decreases-ops l = 200000 * l.inside.levels + 2 + l.m
 
 abbrev pub decreases-par : goal.decreases-par
-decreases-par l = 200000 * l.levels + 80000
+decreases-par l = 200000 * l.inside.levels + 80000
 
 abbrev pub decreases-unary : goal.decreases-unary
-decreases-unary l = 200000 * l.levels + 80000
+decreases-unary l = 200000 * l.inside.levels + 80000
 
 abbrev pub decreases-add : goal.decreases-add
-decreases-add l = 200000 * l.levels + 80000
+decreases-add l = 200000 * l.inside.levels + 80000
 
 abbrev pub decreases-terms : goal.decreases-terms
-decreases-terms l = 200000 * l.levels + 70000
+decreases-terms l = 200000 * l.inside.levels + 70000
 
 abbrev pub decreases-mul : goal.decreases-mul
-decreases-mul l = 200000 * l.levels + 80000
+decreases-mul l = 200000 * l.inside.levels + 80000
 
 abbrev pub decreases-div : goal.decreases-div
-decreases-div l = 200000 * l.levels + 80000
+decreases-div l = 200000 * l.inside.levels + 80000
 
 abbrev pub decreases-host_math : goal.decreases-host_math
-decreases-host_math l = 200000 * l.levels + 80000
+decreases-host_math l = 200000 * l.inside.levels + 80000
 
 abbrev pub decreases-host : goal.decreases-host
-decreases-host l = 200000 * l.levels + 70000
+decreases-host l = 200000 * l.inside.levels + 70000
 
 abbrev pub decreases-pointer : goal.decreases-pointer
-decreases-pointer l = 200000 * l.levels + 80000
+decreases-pointer l = 200000 * l.inside.levels + 80000
 
 abbrev pub decreases-query : goal.decreases-query
 decreases-query l = 200000 * l.levels + 80000
@@ -73,57 +73,57 @@ abbrev pub decreases-segs : goal.decreases-segs
 decreases-segs l = 200000 * l.levels + 70000
 
 abbrev pub decreases-coalesce : goal.decreases-coalesce
-decreases-coalesce l = 200000 * l.levels + 80000
+decreases-coalesce l = 200000 * l.inside.levels + 80000
 
 abbrev pub decreases-alt : goal.decreases-alt
-decreases-alt l = 200000 * l.levels + 70000
+decreases-alt l = 200000 * l.inside.levels + 70000
 
 abbrev pub decreases-conditional : goal.decreases-conditional
-decreases-conditional l = 200000 * l.levels + 80000
+decreases-conditional l = 200000 * l.inside.levels + 80000
 
 abbrev pub decreases-statements : goal.decreases-statements
-decreases-statements l = 200000 * l.levels + 80000
+decreases-statements l = 200000 * l.inside.levels + 80000
 
 abbrev pub decreases-item : goal.decreases-item
-decreases-item l = 200000 * l.levels + 70001
+decreases-item l = 200000 * l.inside.levels + 70001
 
 abbrev pub decreases-ret : goal.decreases-ret
-decreases-ret l = 200000 * l.levels + 70000
+decreases-ret l = 200000 * l.inside.levels + 70000
 
 abbrev pub decreases-repeat : goal.decreases-repeat
-decreases-repeat l = 200000 * l.levels + 80000
+decreases-repeat l = 200000 * l.inside.levels + 80000
 
 abbrev pub decreases-for_each : goal.decreases-for_each
-decreases-for_each l = 200000 * l.levels + 80000
+decreases-for_each l = 200000 * l.inside.levels + 80000
 
 abbrev pub decreases-each : goal.decreases-each
-decreases-each l = 200000 * l.levels + 70000
+decreases-each l = 200000 * l.inside.levels + 70000
 
--- what the rounds left make of the builder is what all of them make of it at the start, and it holds the words that it was lent
+-- what the rounds left make of the builder is what all of them make of it at the start; it holds the words that it was lent, and the child is of the image
 abbrev pub invariant-terms-loop : goal.invariant-terms-loop
 invariant-terms-loop l =
-    let t = l.t.image.now in
-    (◌≡◌ {A = Held} (R.under t l.levels (R.terms t) l.at (l.m - l.counter) l.term l.looping (held l.b))
-    (R.under t l.levels (R.terms t) l.at l.m l.a l.looping (held l.initial.b)))
-    × (l.b.words.ghost_name ≡ l.initial.b.words.ghost_name)
+    let t = l.node.image.now.now in
+    (◌≡◌ {A = Held} (R.under t l.inside.levels (R.terms t) l.node.at (l.m - l.counter) l.term.at l.inside.looping (held l.b))
+    (R.under t l.inside.levels (R.terms t) l.node.at l.m (next_at t (first_at t l.node.at)) l.inside.looping (held l.initial.b)))
+    × (l.b.words.ghost_name ≡ l.initial.b.words.ghost_name) × (l.term.image ≡ l.node.image)
 
 abbrev pub invariant-host-loop : goal.invariant-host-loop
 invariant-host-loop l =
-    let t = l.t.image.now in
-    (◌≡◌ {A = Held} (R.under t l.levels (R.host_arguments t) l.at l.f l.k (l.m - l.counter) l.argument l.looping (held l.b))
-    (R.under t l.levels (R.host_arguments t) l.at l.f l.k l.m (first_at t l.at) l.looping (held l.initial.b)))
-    × (l.b.words.ghost_name ≡ l.initial.b.words.ghost_name)
+    let t = l.node.image.now.now in
+    (◌≡◌ {A = Held} (R.under t l.inside.levels (R.host_arguments t) l.node.at l.f l.k (l.m - l.counter) l.argument.at l.inside.looping (held l.b))
+    (R.under t l.inside.levels (R.host_arguments t) l.node.at l.f l.k l.m (first_at t l.node.at) l.inside.looping (held l.initial.b)))
+    × (l.b.words.ghost_name ≡ l.initial.b.words.ghost_name) × (l.argument.image ≡ l.node.image)
 
 abbrev pub invariant-segs-loop : goal.invariant-segs-loop
 invariant-segs-loop l =
-    let t = l.t.image.now in
-    (◌≡◌ {A = Held} (R.under t l.levels (R.arguments t) l.base l.waiting (l.m - l.counter) l.argument l.slot (held l.b))
-    (R.under t l.levels (R.arguments t) l.base l.waiting l.m l.a l.first (held l.initial.b)))
-    × (l.b.words.ghost_name ≡ l.initial.b.words.ghost_name)
+    let t = l.a.image.now.now in
+    (◌≡◌ {A = Held} (R.under t l.levels (R.arguments t) l.base l.waiting (l.m - l.counter) l.argument.at l.slot (held l.b))
+    (R.under t l.levels (R.arguments t) l.base l.waiting l.m l.a.at l.first (held l.initial.b)))
+    × (l.b.words.ghost_name ≡ l.initial.b.words.ghost_name) × (l.argument.image ≡ l.a.image)
 
 abbrev pub invariant-statements-loop : goal.invariant-statements-loop
 invariant-statements-loop l =
-    let t = l.t.image.now in
-    (◌≡◌ {A = Held} (R.under t l.levels (R.statements_from t) (offset_at t l.at) (count_at t l.at - l.counter) l.child l.looping (held l.b))
-    (R.under t l.levels (R.statements_from t) (offset_at t l.at) (count_at t l.at) (first_at t l.at) l.looping (held l.initial.b)))
-    × (l.b.words.ghost_name ≡ l.initial.b.words.ghost_name)
+    let t = l.node.image.now.now in
+    (◌≡◌ {A = Held} (R.under t l.inside.levels (R.statements_from t) (offset_at t l.node.at) (count_at t l.node.at - l.counter) l.child.at l.inside.looping (held l.b))
+    (R.under t l.inside.levels (R.statements_from t) (offset_at t l.node.at) (count_at t l.node.at) (first_at t l.node.at) l.inside.looping (held l.initial.b)))
+    × (l.b.words.ghost_name ≡ l.initial.b.words.ghost_name) × (l.child.image ≡ l.node.image)

@@ -6,19 +6,22 @@ use Rattle.card.specs.Starts.{sums_of}
 use Rattle.card.proofs.Starts.{closed, one_more, all_nine}
 use Rattle.card.proofs.body.put_body.Goals as goal
 
-pub returns : goal.returns
+pub section-requires-3 : goal.section-requires-3
+section-requires-3 c = omega arith
+
+pub returns-clause-wrote : goal.returns-clause-wrote
 unfolding sections_of sums_of consts_section names_section temps_section members_section stores_section calls_section
-returns c =
+returns-clause-wrote c =
     let sums = c.requires.0 in
     let end = c.requires.1 in
-    let w9 = closed _ _ _ _ c.put_closing.ensures in
-    let w8 = one_more _ _ _ 8 _ (omega arith) (ap (λ (s : Sums). s.calls) sums) end w9 c.put_section.ensures in
-    let w7 = one_more _ _ _ 7 _ (omega arith) (ap (λ (s : Sums). s.stores) sums) end w8 c.put_section-2.ensures in
-    let w6 = one_more _ _ _ 6 _ (omega arith) (ap (λ (s : Sums). s.members) sums) end w7 c.put_section-3.ensures in
-    let w5 = one_more _ _ _ 5 _ (omega arith) (ap (λ (s : Sums). s.temps) sums) end w6 c.put_section-4.ensures in
-    let w4 = one_more _ _ _ 4 _ (omega arith) (ap (λ (s : Sums). s.names) sums) end w5 c.put_section-5.ensures in
-    let w3 = one_more _ _ _ 3 _ (omega arith) (ap (λ (s : Sums). s.hashes) sums) end w4 c.put_hashes.ensures in
-    let w2 = one_more _ _ _ 2 _ (omega arith) (ap (λ (s : Sums). s.posts) sums) end w3 c.put_posts.ensures in
-    let w1 = one_more _ _ _ 1 _ (omega arith) (ap (λ (s : Sums). s.consts) sums) end w2 c.put_section-6.ensures in
-    let w0 = one_more _ _ _ 0 _ (omega arith) (ap (λ (s : Sums). s.code) sums) end w1 c.put_code.ensures in
+    let w9 = closed _ _ _ _ c.closing.ensures.wrote in
+    let w8 = one_more _ _ _ 8 _ (omega arith) (ap (λ (s : Sums). s.calls) sums) end w9 (rw c.from.ensures at c.section.ensures.wrote) in
+    let w7 = one_more _ _ _ 7 _ (omega arith) (ap (λ (s : Sums). s.stores) sums) end w8 c.section-2.ensures.wrote in
+    let w6 = one_more _ _ _ 6 _ (omega arith) (ap (λ (s : Sums). s.members) sums) end w7 c.section-3.ensures.wrote in
+    let w5 = one_more _ _ _ 5 _ (omega arith) (ap (λ (s : Sums). s.temps) sums) end w6 c.section-4.ensures.wrote in
+    let w4 = one_more _ _ _ 4 _ (omega arith) (ap (λ (s : Sums). s.names) sums) end w5 c.section-5.ensures.wrote in
+    let w3 = one_more _ _ _ 3 _ (omega arith) (ap (λ (s : Sums). s.hashes) sums) end w4 c.hashes.ensures.wrote in
+    let w2 = one_more _ _ _ 2 _ (omega arith) (ap (λ (s : Sums). s.posts) sums) end w3 c.posts.ensures.wrote in
+    let w1 = one_more _ _ _ 1 _ (omega arith) (ap (λ (s : Sums). s.consts) sums) end w2 c.section-6.ensures.wrote in
+    let w0 = one_more _ _ _ 0 _ (omega arith) (ap (λ (s : Sums). s.code) sums) end w1 c.code.ensures.wrote in
     all_nine _ _ _ end w0

@@ -5,6 +5,6 @@ use Rattle.card.proofs.fields.Writer.bytes.Goals as goal
 pub returns-then-k-room : goal.returns-then-k-room
 returns-then-k-room c = record {
   same = refl;
-  wrote = copied _ _ _ _ _ _ _ _ (omega arith) (omega arith) (omega arith) (omega arith) c.copy_from_slice.ensures.after;
+  wrote = rw c.from-k.ensures (copied _ _ _ _ _ _ _ _ (omega arith) (omega arith) (omega arith) (omega arith) c.copy_from_slice.ensures.after);
   within = omega arith;
 }
