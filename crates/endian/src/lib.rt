@@ -1,4 +1,4 @@
-// Big-endian numbers written into bytes. Past the end nothing is written.
+// Big-endian numbers written into bytes. Past the end nothing is written. Output and place come from the caller, who has them as one value (card's `Writer`).
 #![tactic(auto)]
 
 ghost use Rattle.std.specs.Prelude.{◌≡◌, [], ◌/◌, ◌%◌, ◌^◌, ◌<◌, ◌≤◌, length};

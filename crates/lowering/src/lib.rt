@@ -449,6 +449,7 @@ fn mul(b: &mut Builder<'_>, node: Node<'_>, inside: Inside)
     pop(b, 1);
 }
 
+// The setting of a tree image: any byte but 1 is signed, so that this reads every image.
 #[tactic(auto, unfolding(program::specs::Image::bit))]
 fn divisor(tree: &[u8]) -> Divisor
     ensures { divisor_of result ≡ bit (eqb (be8 tree.now 0 6) 1) }

@@ -1,4 +1,5 @@
 // Values: what a payload reads as; constants, strings, resources and loads; what stands behind the base of a member and the index of an array.
+// A payload of another kind is told by `let .. else`, a rule of the project.
 ghost use Rattle.std.specs.Prelude.{◌≡◌};
 ghost use Rattle.numeric.specs.Post.{fold};
 ghost use Rattle.ast.specs.Node.{offset_at};

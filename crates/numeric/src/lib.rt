@@ -45,7 +45,7 @@ impl PostOp {
         }
     }
 
-    // Scale 1.0 with offset 0.0 or -0.0.
+    // Scale 1.0 with offset 0.0 or -0.0: the identity test, which a rule of the project names.
     #[tactic(auto, unfolding(crate::specs::PostOp::identity_op))]
     pub fn is_identity(self) -> bool
         ensures { result ≡ identity_op self }

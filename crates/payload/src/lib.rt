@@ -22,6 +22,7 @@ pub struct QueryRef {
     pub impl_idx: u8,
 }
 
+// The payload enum, a form that a rule of the project names: a case for each kind, and `None` for an unknown kind too.
 #[derive(Clone, Copy, Drop)]
 pub enum Payload {
     None,

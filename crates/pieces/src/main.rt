@@ -9,7 +9,7 @@ ghost use Rattle.std.specs.Iterator.{at_most};
 
 use std::io;
 
-// The most bytes that are taken of the input, and so the most images.
+// The most bytes that are taken of the input, and so the most images. The buffer is an array, as those of `bench` are.
 const MOST: usize = 65536;
 
 fn main(rt: HostRuntime) {

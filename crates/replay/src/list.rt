@@ -2,7 +2,7 @@
 use std::io::Read;
 use std::{fmt, io};
 
-// Why the list cannot be read on: it ends early, or a read fails; or there is no room for the length that it gives.
+// Why the list cannot be read on: it ends early, or a read fails; or there is no room for the length that it gives. An error of its own, taken by `?`.
 #[derive(Clone, Copy)]
 pub enum Damage {
     CutOff,

@@ -5,7 +5,7 @@ use answers::refusals::Refusal;
 use std::fmt;
 use std::io::Read;
 
-// What the generator answers otherwise than the list.
+// What the generator answers otherwise than the list: three cases, each with what was got and what stands there.
 #[derive(Clone, Copy)]
 pub enum Difference {
     Refusal { got: u32, expected: u32 },

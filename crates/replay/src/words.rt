@@ -18,7 +18,7 @@ impl fmt::Display for Tally {
     }
 }
 
-// Where a list is damaged: at the count of its trees, at a tree, or behind the last one.
+// Where a list is damaged: at the count of its trees, at a tree, or behind the last one. An error of its own.
 #[derive(Clone, Copy)]
 pub enum BadList {
     Count,

@@ -1,4 +1,4 @@
-// Big-endian numbers read in bytes. Past the end a byte reads 0.
+// Big-endian numbers read in bytes. Past the end a byte reads 0. Bytes and place come from the caller, who has them as one value (tree's `Node`).
 #![tactic(auto)]
 
 ghost use Rattle.std.specs.Prelude.{◌≡◌, ℕ, ◌+◌, get_or, IfSome};
