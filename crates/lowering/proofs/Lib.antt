@@ -4,3 +4,4 @@ pub mod Slots
 pub mod Paths
 pub mod Rounds
 pub mod Others
+pub mod Variables

@@ -5,6 +5,7 @@ use mathlib.Core.List.{List}
 use Prim.Native.Nat.{ℕ, zero, suc, ◌+◌, ◌-◌, ◌<◌}
 use native.Mathlib.Omega.{arith}
 use lib.Dec.{eqb}
+use Rattle.workspace.specs.Counts.{sum}
 use Rattle.ast.specs.Node.{next_at, count_at, first_at}
 use Rattle.payload.specs.declared.NameRef.{NameRef}
 use Rattle.payload.specs.declared.QueryRef.{QueryRef}
@@ -26,6 +27,13 @@ one_less m i h = omega arith
 
 pub none_done : (m : ℕ) → m - 0 ≡ m
 none_done m = omega arith
+
+-- the slot of the first argument, and of the one behind
+pub first_slot : (f : ℕ) → f < 65536 → sum f 0 ≡ f
+first_slot f h = omega arith
+
+pub next_slot : (f i : ℕ) → sum f (i + 1) ≡ after (sum f i)
+next_slot f i = omega arith
 
 module _ (t : List ℕ) (E : ℕ → Bool → Step) (C : ℕ → NameRef → Bool → Step) (R : ℕ → Bool → Step) where
   pub term_on : (p : ℕ) (l : Bool) (h : Held) (m n a : ℕ) {b : ℕ} {h1 h2 g : Held} → m ≡ suc n → h1 ≡ E a l h → h2 ≡ instr 17 0 0 0 h1 → b ≡ next_at t a → terms t E C R p m a l h ≡ g → terms t E C R p n b l h2 ≡ g
@@ -52,9 +60,9 @@ module _ (t : List ℕ) (E : ℕ → Bool → Step) (C : ℕ → NameRef → Boo
   unfolding statements_from
   statement_end o l h m a {g = g} em ev e1 e = let P : ℕ → Type 0 = λ k'. statements_from t E C R o k' a l h ≡ g in let d : P 0 = subst P em e in rw (e1, ev) d
 
-  pub argument_on : (base : ℕ) (waiting : Bool) (h : Held) (m n a slot : ℕ) {b i : ℕ} {h1 h2 h3 g : Held} → m ≡ suc n → h1 ≡ still opened h → h2 ≡ E a false h1 → h3 ≡ argument_closed base waiting slot h2 → b ≡ next_at t a → i ≡ after slot → arguments t E C R base waiting m a slot h ≡ g → arguments t E C R base waiting n b i h3 ≡ g
+  pub argument_on : (base : ℕ) (waiting : Bool) (h : Held) (m n a slot : ℕ) {b i j : ℕ} {h1 h2 h3 g : Held} → m ≡ suc n → h1 ≡ still opened h → h2 ≡ E a false h1 → j ≡ slot → h3 ≡ argument_closed base waiting j h2 → b ≡ next_at t a → i ≡ after slot → arguments t E C R base waiting m a slot h ≡ g → arguments t E C R base waiting n b i h3 ≡ g
   unfolding arguments
-  argument_on base waiting h m n a slot {g = g} em e1 e2 e3 eb ei e = let P : ℕ → Type 0 = λ k'. arguments t E C R base waiting k' a slot h ≡ g in let d : P (suc n) = subst P em e in rw (eb, ei, e3, e2, e1) d
+  argument_on base waiting h m n a slot {g = g} em e1 e2 ej e3 eb ei e = let P : ℕ → Type 0 = λ k'. arguments t E C R base waiting k' a slot h ≡ g in let d : P (suc n) = subst P em e in rw (eb, ei, e3, ej, e2, e1) d
 
   pub argument_end : (base : ℕ) (waiting : Bool) (h : Held) (m a slot : ℕ) {g : Held} → m ≡ 0 → arguments t E C R base waiting m a slot h ≡ g → h ≡ g
   unfolding arguments

@@ -1,16 +1,16 @@
 -- A store's root as two numbers. Definitions only.
-use Rattle.std.specs.Prelude.{ℕ}
+use Rattle.std.specs.Prelude.{ℕ, Option, None, Some}
 use Rattle.program.specs.Image.{VAR_ROOT, TEMP_ROOT, OTHER_ROOT}
-use Rattle.lowering.specs.declared.assign.StoreRoot.{StoreRoot}
-use Rattle.lowering.specs.declared.assign.StoreRoot.TheVariants.{Var, Temp, Other}
+use Rattle.lowering.specs.declared.interning.VariableIdx.{VariableIdx}
+use Rattle.lowering.specs.declared.interning.VariableIdx.TheVariants.{Name, Temp}
 
 -- 01, The program image: "root 0 Var, 1 Temp, 2 Other; index 2, 0 for Other"
-abbrev pub root_kind : StoreRoot → ℕ
-root_kind (Var n) = VAR_ROOT
-root_kind (Temp n) = TEMP_ROOT
-root_kind Other = OTHER_ROOT
+abbrev pub root_kind : Option VariableIdx → ℕ
+root_kind (Some (Name n)) = VAR_ROOT
+root_kind (Some (Temp n)) = TEMP_ROOT
+root_kind None = OTHER_ROOT
 
-abbrev pub root_index : StoreRoot → ℕ
-root_index (Var n) = n.0
-root_index (Temp n) = n.0
-root_index Other = 0
+abbrev pub root_index : Option VariableIdx → ℕ
+root_index (Some (Name n)) = n.0
+root_index (Some (Temp n)) = n.0
+root_index None = 0

@@ -1,8 +1,7 @@
 -- What each rule without operands makes of the builder's state and the workspace's words, and what stands behind an operand. Definitions only.
-use Rattle.std.specs.Prelude.{Bool, true, false, cond, List, [], ◌∷◌, ℕ, zero, suc, eqb, Option, None, Some}
+use Rattle.std.specs.Prelude.{Bool, cond, List, [], ◌∷◌, ℕ, zero, suc, eqb, Option, None, Some}
 use Rattle.std.specs.Option.{option_map}
 use Rattle.answers.specs.declared.refusals.Refusal.{Refusal}
-use Rattle.answers.specs.declared.refusals.Refusal.TheVariants as Refusal
 use Rattle.numeric.specs.Post.{fold}
 use Rattle.ast.specs.Operators as Operator
 use Rattle.ast.specs.NameKinds as Kind
@@ -20,8 +19,8 @@ use Rattle.builder.specs.Steps.{still, failed}
 use Rattle.lowering.specs.Pools as B
 use Rattle.lowering.specs.Pools.{Found, after, constant}
 use Rattle.lowering.specs.declared.assign.PathEnd.{PathEnd}
-use Rattle.lowering.specs.declared.control.EachIndex.{EachIndex}
-use Rattle.lowering.specs.declared.control.EachIndex.TheVariants.{Name, Temp}
+use Rattle.lowering.specs.declared.interning.VariableIdx.{VariableIdx}
+use Rattle.lowering.specs.declared.interning.VariableIdx.TheVariants.{Name, Temp}
 use Rattle.lowering.specs.Payloads.{as_name, as_hash, as_math, as_query, float_of, const_of, string_of, resource_of}
 use Rattle.lowering.specs.Steps.{flagged, not_float_only}
 use Rattle.lowering.specs.Parts.{Step, ◌>>◌, ◌>>=◌, either, instr, going, with_const, with_hash, with_name, with_temp, with_member}
@@ -33,22 +32,22 @@ unfoldable pub among : List (ℕ × Held) → ℕ → Held → Held
 among [] r d = d
 among (e ∷ l) r d = cond (eqb r e.0) e.1 (among l r d)
 
--- a state with a ForEach variable's index, none where the variable is refused
-pub record EachVariable : Type 0 where
+-- a state with the index of a variable or a temp, if there is one
+pub record VariableEntry : Type 0 where
   pub state : State
-  pub index : Option EachIndex
+  pub index : Option VariableIdx
 
--- one that is refused, and one that is interned, as a name or as a temp
-abbrev pub no_variable : Held → EachVariable × List ℕ
-no_variable h = let g = failed Refusal.Failed h in (record { state = g.0; index = None }, g.1)
+-- none, where nothing is done, and one that is interned, as a name or as a temp
+abbrev pub no_variable : Held → VariableEntry × List ℕ
+no_variable h = (record { state = h.0; index = None }, h.1)
 
-abbrev pub variable_of : (ℕ → EachIndex) → Found → EachVariable × List ℕ
+abbrev pub variable_of : (ℕ → VariableIdx) → Found → VariableEntry × List ℕ
 variable_of kind e = (record { state = e.0.state; index = Some (kind e.0.index) }, e.1)
 
-abbrev pub name_kind : ℕ → EachIndex
+abbrev pub name_kind : ℕ → VariableIdx
 name_kind k = Name (record { 0 = k })
 
-abbrev pub temp_kind : ℕ → EachIndex
+abbrev pub temp_kind : ℕ → VariableIdx
 temp_kind k = Temp (record { 0 = k })
 
 -- a hash by the instruction that reads it
@@ -213,10 +212,10 @@ module _ (t : List ℕ) where
 
   -- ---- control
 
-  unfoldable pub variable_temp : ℕ → Held → EachVariable × List ℕ
+  unfoldable pub variable_temp : ℕ → Held → VariableEntry × List ℕ
   variable_temp p h = as_name Kind.TEMP (payload p) (no_variable h) (λ n. variable_of temp_kind (B.temp n h))
 
-  unfoldable pub variable : ℕ → Held → EachVariable × List ℕ
+  unfoldable pub variable : ℕ → Held → VariableEntry × List ℕ
   variable p h = as_name Kind.ENTITY (payload p) (variable_temp p h) (λ n. variable_of name_kind (B.name n h))
 
   -- ---- rules without operands, from the last

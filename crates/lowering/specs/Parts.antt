@@ -1,5 +1,5 @@
 -- The parts that rules are made of, as steps on the builder's state and the workspace's words. Definitions only.
-use Rattle.std.specs.Prelude.{Bool, true, false, cond, List, [], ◌∷◌, ℕ, ◌+◌, ◌*◌, ◌-◌, ◌%◌, ltb, set, Option, None, Some}
+use Rattle.std.specs.Prelude.{Bool, cond, List, [], ◌∷◌, ℕ, ◌+◌, ◌*◌, ◌-◌, ◌%◌, ltb, set, Option, None, Some}
 use Rattle.answers.specs.declared.refusals.Refusal.{Refusal}
 use Rattle.numeric.specs.Post.{Post, is_identity}
 use Rattle.ast.specs.Node.{scale_at, offset_at}
@@ -10,8 +10,8 @@ use Rattle.workspace.specs.Counts.{sum}
 use Rattle.lowering.specs.Regions.{appended_count, appended_words}
 use Rattle.payload.specs.declared.NameRef.{NameRef}
 use Rattle.lowering.specs.Held.{State, Held}
-use Rattle.lowering.specs.declared.control.EachIndex.{EachIndex}
-use Rattle.lowering.specs.declared.control.EachIndex.TheVariants.{Name, Temp}
+use Rattle.lowering.specs.declared.interning.VariableIdx.{VariableIdx}
+use Rattle.lowering.specs.declared.interning.VariableIdx.TheVariants.{Name, Temp}
 use Rattle.builder.specs.Steps.{emitted, flushed, put, failed}
 use Rattle.lowering.specs.Pools as B
 use Rattle.lowering.specs.Pools.{Found, after}
@@ -127,13 +127,13 @@ each_closed begin next h =
       place_target begin) h
 
 -- 01, The program image: "in EachNextVar and EachNextTemp, A is the exit and B the variable"
-unfoldable pub each_next : EachIndex → Held → Found
+unfoldable pub each_next : VariableIdx → Held → Found
 each_next (Name n) = emit_jump O.EACH_NEXT_VAR 0 n.0
 each_next (Temp n) = emit_jump O.EACH_NEXT_TEMP 0 n.0
 
--- 01, question 7: "a ForEach variable Entity or Temp under any operator": the step with the variable's index, nothing more where it is refused
-abbrev pub where_found : Option EachIndex → (EachIndex → Step) → Step
-where_found None f h = h
+-- 01, question 7: "a ForEach variable Entity or Temp under any operator": the step with the variable's index, refused where there is none
+abbrev pub where_found : Option VariableIdx → (VariableIdx → Step) → Step
+where_found None f h = failed Refusal.Failed h
 where_found (Some i) f h = f i h
 
 -- a call takes its number, and places for its arguments' starts

@@ -7,6 +7,7 @@ ghost use Rattle.lowering.specs.Kinds.{root_kind, root_index};
 ghost use Rattle.lowering.specs.Parts.{path_added, store_added};
 ghost use Rattle.lowering.specs.Rules as R;
 
+use crate::interning::VariableIdx;
 use crate::parts::instr;
 use crate::steps::{flag, not_float_only};
 use crate::{Builder, interning, regions};
@@ -14,7 +15,7 @@ use answers::refusals::Refusal;
 use ast::operators;
 use payload::{Payload, payload_of};
 use program::opcodes::Opcode;
-use program::{Flags, NameIdx, PostIdx, StoreIdx, TempIdx};
+use program::{Flags, PostIdx, StoreIdx};
 use tree::Node;
 use workspace::words::{high, low};
 
@@ -23,14 +24,6 @@ use workspace::words::{high, low};
 pub struct PathEnd {
     pub root: usize,
     pub count: u16,
-}
-
-// What a member store writes under: a variable, a temp, or any other value.
-#[derive(Clone, Copy, Drop)]
-pub enum StoreRoot {
-    Var(NameIdx),
-    Temp(TempIdx),
-    Other,
 }
 
 // None where a link is no member with a child.
@@ -87,38 +80,36 @@ fn path_hashes(b: &mut Builder<'_>, node: Node<'_>, levels: u16)
     add_path(b, n.hash);
 }
 
-impl StoreRoot {
-    // The number of the kind.
-    fn kind(self) -> u32
-        ensures { result ≡ root_kind self }
-    {
-        match self {
-            StoreRoot::Var(_) => 0,
-            StoreRoot::Temp(_) => 1,
-            StoreRoot::Other => 2,
-        }
+// The number of a store's root: a variable, a temp, or any other value.
+fn root_kind(root: Option<VariableIdx>) -> u32
+    ensures { result ≡ root_kind root }
+{
+    match root {
+        Some(VariableIdx::Name(_)) => 0,
+        Some(VariableIdx::Temp(_)) => 1,
+        None => 2,
     }
+}
 
-    // The number of the index; 0 where it has none.
-    fn index(self) -> u16
-        ensures { result ≡ root_index self }
-    {
-        match self {
-            StoreRoot::Var(n) => n.0,
-            StoreRoot::Temp(n) => n.0,
-            StoreRoot::Other => 0,
-        }
+// The number of its index; 0 where it has none.
+fn root_index(root: Option<VariableIdx>) -> u16
+    ensures { result ≡ root_index root }
+{
+    match root {
+        Some(VariableIdx::Name(n)) => n.0,
+        Some(VariableIdx::Temp(n)) => n.0,
+        None => 0,
     }
 }
 
 #[tactic(auto, unfolding(crate::specs::Parts::store_added))]
-fn add_store(b: &mut Builder<'_>, root: StoreRoot, first: u16, count: u16) -> StoreIdx
+fn add_store(b: &mut Builder<'_>, root: Option<VariableIdx>, first: u16, count: u16) -> StoreIdx
     ensures { Gave b.old b.new result.0 (store_added (root_kind root) (root_index root) first count) }
 {
     let k = b.state.stores;
     let entry = [
-        root.kind(),
-        u32::from(root.index()),
+        root_kind(root),
+        u32::from(root_index(root)),
         u32::from(first),
         u32::from(count),
     ];
@@ -131,7 +122,7 @@ fn add_store(b: &mut Builder<'_>, root: StoreRoot, first: u16, count: u16) -> St
 fn store_as(
     b: &mut Builder<'_>,
     node: Node<'_>,
-    root: StoreRoot,
+    root: Option<VariableIdx>,
     levels: u16,
     count: u16,
     q: PostIdx,
@@ -145,25 +136,16 @@ fn store_as(
 }
 
 // The same under the root of the path: a variable, a temp, or any other value.
-#[tactic(auto, unfolding(crate::specs::Leaves::root_var, crate::specs::Leaves::root_temp, crate::specs::Payloads::as_name, crate::specs::Payloads::cases))]
+#[tactic(auto, using(crate::proofs::Variables::under_root))]
 fn store_under(b: &mut Builder<'_>, node: Node<'_>, e: PathEnd, levels: u16, q: PostIdx)
     ensures { Did b.old b.new (R.root_var (bytes node.entry) e.root levels node.entry.at e.count q.0) }
 {
-    let root = Node {
+    let end = Node {
         image: node.image,
         at: e.root,
     };
-    match payload_of(root) {
-        Payload::Entity(n) => {
-            let index = interning::name(b, n);
-            store_as(b, node, StoreRoot::Var(index), levels, e.count, q);
-        }
-        Payload::Temp(n) => {
-            let index = interning::temp(b, n);
-            store_as(b, node, StoreRoot::Temp(index), levels, e.count, q);
-        }
-        _ => store_as(b, node, StoreRoot::Other, levels, e.count, q),
-    }
+    let root = interning::variable(b, end);
+    store_as(b, node, root, levels, e.count, q);
 }
 
 #[tactic(auto, unfolding(crate::specs::Leaves::store_member))]
@@ -182,20 +164,18 @@ fn store_member(b: &mut Builder<'_>, node: Node<'_>, levels: u16, q: PostIdx)
 }
 
 // A store to the target, of so many levels, with a post.
-#[tactic(auto, unfolding(crate::specs::Leaves::store_var, crate::specs::Leaves::store_temp, crate::specs::Payloads::as_name, crate::specs::Payloads::cases))]
+#[tactic(auto, using(crate::proofs::Variables::to_path))]
 pub(crate) fn store(b: &mut Builder<'_>, node: Node<'_>, levels: u16, q: PostIdx)
     ensures { Did b.old b.new (R.store_var (bytes node.entry) levels node.entry.at q.0) }
 {
-    match payload_of(node) {
-        Payload::Entity(n) => {
-            let index = interning::name(b, n);
+    match interning::variable(b, node) {
+        Some(VariableIdx::Name(index)) => {
             instr(b, Opcode::StoreVar, 0, u32::from(index.0), q);
         }
-        Payload::Temp(n) => {
-            let index = interning::temp(b, n);
+        Some(VariableIdx::Temp(index)) => {
             instr(b, Opcode::StoreTemp, 0, u32::from(index.0), q);
         }
-        _ => store_member(b, node, levels, q),
+        None => store_member(b, node, levels, q),
     }
 }
 

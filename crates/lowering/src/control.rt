@@ -1,18 +1,14 @@
-// Control: breaks, the ends of loops, a ForEach variable.
+// Control: breaks, the ends of loops, the step of a ForEach variable.
 ghost use Rattle.std.specs.Prelude.{◌≡◌};
-ghost use Rattle.tree.specs.Nodes.{bytes};
 ghost use Rattle.builder.specs.Done.{Did};
-ghost use Rattle.lowering.specs.Done.{Gave, GaveVariable};
+ghost use Rattle.lowering.specs.Done.{Gave};
 ghost use Rattle.lowering.specs.Parts.{jump_out, loop_closed, each_closed, each_next};
-ghost use Rattle.lowering.specs.Rules as R;
 
+use crate::Builder;
+use crate::interning::VariableIdx;
 use crate::parts::{emit_jump, instr, place_target};
-use crate::{Builder, interning};
-use answers::refusals::Refusal;
-use payload::{Payload, payload_of};
+use program::PostIdx;
 use program::opcodes::Opcode;
-use program::{NameIdx, PostIdx, TempIdx};
-use tree::Node;
 
 // A Break or Continue that waits for its loop; Halt where none is open.
 #[tactic(auto, unfolding(crate::specs::Parts::jump_out))]
@@ -51,35 +47,13 @@ pub(crate) fn close_each(b: &mut Builder<'_>, begin: u16, next: u16)
     place_target(b, begin);
 }
 
-// A ForEach variable's index, by what it is: a variable or a temp.
-#[derive(Clone, Copy, Drop)]
-pub enum EachIndex {
-    Name(NameIdx),
-    Temp(TempIdx),
-}
-
 // The variable's EachNext, whose target is not known yet.
 #[tactic(auto, unfolding(crate::specs::Parts::each_next))]
-pub(crate) fn each_next(b: &mut Builder<'_>, index: EachIndex) -> u16
+pub(crate) fn each_next(b: &mut Builder<'_>, index: VariableIdx) -> u16
     ensures { Gave b.old b.new result (each_next index) }
 {
     match index {
-        EachIndex::Name(n) => emit_jump(b, Opcode::EachNextVar, 0, n.0),
-        EachIndex::Temp(n) => emit_jump(b, Opcode::EachNextTemp, 0, n.0),
-    }
-}
-
-// A ForEach variable, or none where it is refused.
-#[tactic(auto, unfolding(crate::specs::Leaves::variable, crate::specs::Leaves::variable_temp, crate::specs::Payloads::as_name, crate::specs::Payloads::cases))]
-pub(crate) fn variable(b: &mut Builder<'_>, node: Node<'_>) -> Option<EachIndex>
-    ensures { GaveVariable b.old b.new result (R.variable (bytes node.entry) node.entry.at) }
-{
-    match payload_of(node) {
-        Payload::Entity(n) => Some(EachIndex::Name(interning::name(b, n))),
-        Payload::Temp(n) => Some(EachIndex::Temp(interning::temp(b, n))),
-        _ => {
-            b.failed(Refusal::Failed);
-            None
-        }
+        VariableIdx::Name(n) => emit_jump(b, Opcode::EachNextVar, 0, n.0),
+        VariableIdx::Temp(n) => emit_jump(b, Opcode::EachNextTemp, 0, n.0),
     }
 }

@@ -2,14 +2,17 @@
 ghost use Rattle.std.specs.Prelude.{◌≡◌};
 ghost use Rattle.numeric.specs.Post.{is_identity};
 ghost use Rattle.numeric.specs.PostOp.{patterns, post_of};
+ghost use Rattle.tree.specs.Nodes.{bytes};
 ghost use Rattle.builder.specs.Done.{Did};
-ghost use Rattle.lowering.specs.Done.{Gave};
+ghost use Rattle.lowering.specs.Done.{Gave, GaveVariable};
+ghost use Rattle.lowering.specs.Leaves.{variable};
 ghost use Rattle.lowering.specs.Pools.{konst, post, hash, name, slot, temp, member, text_place, constant};
 
 use crate::{Builder, regions};
 use numeric::{PostBits, PostOp};
-use payload::NameRef;
+use payload::{NameRef, Payload, payload_of};
 use program::{ConstIdx, Flags, HashIdx, MemberIdx, NameIdx, PostIdx, TempIdx};
+use tree::Node;
 use workspace::words::{high, low};
 
 // A constant, by its bits.
@@ -107,6 +110,25 @@ pub(crate) fn temp(b: &mut Builder<'_>, n: NameRef) -> TempIdx
     let named = name(b, n);
     b.state.flags |= Flags::USES_TEMPS;
     slot(b, named)
+}
+
+// The index of a variable or a temp.
+#[derive(Clone, Copy, Drop)]
+pub enum VariableIdx {
+    Name(NameIdx),
+    Temp(TempIdx),
+}
+
+// The variable or temp that the node names; nothing is done where it names neither.
+#[tactic(auto, unfolding(crate::specs::Leaves::variable, crate::specs::Leaves::variable_temp, crate::specs::Payloads::as_name, crate::specs::Payloads::cases))]
+pub(crate) fn variable(b: &mut Builder<'_>, node: Node<'_>) -> Option<VariableIdx>
+    ensures { GaveVariable b.old b.new result (variable (bytes node.entry) node.entry.at) }
+{
+    match payload_of(node) {
+        Payload::Entity(n) => Some(VariableIdx::Name(name(b, n))),
+        Payload::Temp(n) => Some(VariableIdx::Temp(temp(b, n))),
+        _ => None,
+    }
 }
 
 // A constant is interned and put: Const, or PushConst where a Push waits.

@@ -30,9 +30,9 @@ use answers::refusals::Refusal;
 use ast::{header, operators};
 use builder::State;
 use code::segment;
-use control::EachIndex;
 use depth::Depth;
 use inside::Inside;
+use interning::VariableIdx;
 use parts::{emit_jump, instr, place_target, post, post_instr, put_post};
 use payload::{NameRef, Payload, payload_of};
 use program::opcodes::Opcode;
@@ -567,17 +567,15 @@ fn segs(b: &mut Builder<'_>, a: Node<'_>, m: u16, first: u16, levels: u16)
     let base = b.state.base;
     let waiting = b.state.waiting;
     let mut argument = a;
-    let mut slot = first;
-    for _ in 0..m {
+    for i in 0..m {
         b.open_segment();
         let inside = Inside {
             looping: false,
             levels,
         };
         expr(b, argument, inside);
-        calls::end_argument(b, base, waiting, slot);
+        calls::end_argument(b, base, waiting, first.saturating_add(i));
         argument = argument.next();
-        slot = slot.saturating_add(1);
     }
 }
 
@@ -712,15 +710,16 @@ fn for_each(b: &mut Builder<'_>, node: Node<'_>, inside: Inside)
     if node.count() < 3 {
         return b.failed(Refusal::Failed);
     }
-    if let Some(k) = control::variable(b, node.first()) {
-        each(b, node, k, inside);
-    }
+    let Some(k) = interning::variable(b, node.first()) else {
+        return b.failed(Refusal::Failed);
+    };
+    each(b, node, k, inside);
 }
 
 // Behind a ForEach's variable: the array, and the body once for each element.
 #[cycle(expression)]
 #[tactic(auto, unfolding(crate::specs::Rules::each))]
-fn each(b: &mut Builder<'_>, node: Node<'_>, k: EachIndex, inside: Inside)
+fn each(b: &mut Builder<'_>, node: Node<'_>, k: VariableIdx, inside: Inside)
     ensures { Did b.old b.new (R.under (bytes node.entry) inside.levels (R.each (bytes node.entry)) node.entry.at (each_next k) inside.looping) }
 {
     let array = node.first().next();

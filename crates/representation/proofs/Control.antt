@@ -20,7 +20,7 @@ use Rattle.semantics.specs.Lowering.{Lowerings}
 use Rattle.payload.specs.declared.NameRef.{NameRef}
 use Rattle.lowering.specs.Pools as B
 use Rattle.lowering.specs.Held.{Held}
-use Rattle.lowering.specs.Leaves.{EachVariable}
+use Rattle.lowering.specs.Leaves.{VariableEntry}
 use Rattle.lowering.specs.Parts as L
 use Rattle.lowering.specs.Parts.{Step}
 use Rattle.lowering.specs.Steps as Y
@@ -60,7 +60,7 @@ module _ (tree : List ℕ) (E : ℕ → Bool → Step) (C : ℕ → NameRef → 
   statements_from_lem o xs m q l k = absurd k
 
   -- what the code makes of a variable v that it found
-  abbrev looping : ℕ → Bool → EachVariable × List ℕ → Held
+  abbrev looping : ℕ → Bool → VariableEntry × List ℕ → Held
   looping p l v = L.where_found v.0.index (λ i. R.each tree E C Z p (L.each_next i) l) (v.0.state, v.1)
 
   module _ (p : ℕ) (xs : List Lowerings) (k : Children tree E C Z xs (count_at tree p) (first_at tree p)) {c : Counts} (l : Bool) where
@@ -100,8 +100,8 @@ module _ (tree : List ℕ) (E : ℕ → Bool → Step) (C : ℕ → NameRef → 
     variable_does n sound short {b} {e} cb ce =
         let q = first_at tree p in
         let f : N.EachNext → Lowering = λ i. b.expr l ⨾ eached i (e.expr true) ⨾ constant (fold (L.post_bits tree p) 0) in
-        name_related tree (λ (d : Lowering) (G : Held → EachVariable × List ℕ). Does tree d c (λ h. looping p l (G h))) 4 q (node_sound n tree q sound) short (λ n. with_name n λ k. f (N.each_next_var k))
-        (name_related tree (λ (d : Lowering) (G : Held → EachVariable × List ℕ). Does tree d c (λ h. looping p l (G h))) 5 q (node_sound n tree q sound) short (λ n. with_temp n λ k. f (N.each_next_temp k))
+        name_related tree (λ (d : Lowering) (G : Held → VariableEntry × List ℕ). Does tree d c (λ h. looping p l (G h))) 4 q (node_sound n tree q sound) short (λ n. with_name n λ k. f (N.each_next_var k))
+        (name_related tree (λ (d : Lowering) (G : Held → VariableEntry × List ℕ). Does tree d c (λ h. looping p l (G h))) 5 q (node_sound n tree q sound) short (λ n. with_temp n λ k. f (N.each_next_temp k))
         (failing_does Failed)
         (λ r t. temp_does r t (λ v. each_body (N.each_next_temp v) 45 v (leads (N.each_next (N.each_next_temp v)) 45 0 v (λ t. refl)) cb ce)))
         (λ r t. name_does r t (λ v. each_body (N.each_next_var v) 44 v (leads (N.each_next (N.each_next_var v)) 44 0 v (λ t. refl)) cb ce))

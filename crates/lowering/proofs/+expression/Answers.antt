@@ -1,6 +1,6 @@
 use mathlib.Core.Path.{refl, ap, ◌∙◌}
 use native.Mathlib.Omega.{arith}
-use Rattle.lowering.proofs.Rounds.{none_done, one_less, term_on, term_end, host_on, host_end, statement_on, statement_end, argument_on, argument_end, call_all}
+use Rattle.lowering.proofs.Rounds.{none_done, one_less, term_on, term_end, host_on, host_end, statement_on, statement_end, first_slot, next_slot, argument_on, argument_end, call_all}
 use Rattle.lowering.specs.Rules.{statements}
 use Rattle.lowering.proofs.+expression.Goals as goal
 
@@ -38,20 +38,20 @@ host-returns t c = (
   c.put_post.ensures.1 ∙ c.expr-2.ensures.1 ∙ c.loop.invariant.1,
 )
 
-pub segs-loop-init : goal.segs-loop-init
-segs-loop-init t c = (rw none_done, refl, refl)
+pub segs-loop-i-init : goal.segs-loop-i-init
+segs-loop-i-init t c = (rw (none_done, first_slot _ c.ranges.first.fits), refl, refl)
 
-pub segs-loop-preserved : goal.segs-loop-preserved
-segs-loop-preserved t c =
-    let i = c.loop.invariant.2 in (
-      argument_on _ _ _ _ _ _ _ _ _ _ _ (one_less _ _ c.loop-test.true) c.open_segment.ensures.0 (rw (← i) c.expr.ensures.0) c.end_argument.ensures.0
-          (rw (← i) (ap (λ n. n.at) c.next-argument.ensures.0)) c.saturating_add-slot.ensures c.loop.invariant.0,
-      c.end_argument.ensures.1 ∙ c.expr.ensures.1 ∙ c.open_segment.ensures.1 ∙ c.loop.invariant.1,
+pub segs-loop-i-preserved : goal.segs-loop-i-preserved
+segs-loop-i-preserved t c =
+    let i = c.loop-i.invariant.2 in (
+      argument_on _ _ _ _ _ _ _ _ _ _ _ (one_less _ _ c.loop-i-test.true) c.open_segment.ensures.0 (rw (← i) c.expr.ensures.0) c.saturating_add.ensures c.end_argument.ensures.0
+          (rw (← i) (ap (λ n. n.at) c.next-argument.ensures.0)) (next_slot _ _) c.loop-i.invariant.0,
+      c.end_argument.ensures.1 ∙ c.expr.ensures.1 ∙ c.open_segment.ensures.1 ∙ c.loop-i.invariant.1,
       rw c.next-argument.ensures.0 i,
     )
 
 pub segs-returns : goal.segs-returns
-segs-returns t c = (argument_end _ _ _ _ _ _ _ _ _ _ (omega (arith, c.loop-test.false)) c.loop.invariant.0, c.loop.invariant.1)
+segs-returns t c = (argument_end _ _ _ _ _ _ _ _ _ _ (omega (arith, c.loop-i-test.false)) c.loop-i.invariant.0, c.loop-i.invariant.1)
 
 pub statements-loop-init : goal.statements-loop-init
 statements-loop-init t c = (rw (none_done, c.first-child.ensures.0), refl, rw c.first-child.ensures.0)

@@ -1,5 +1,6 @@
 -- The measures of the cycle, and what each of its loops keeps. A level outweighs all that one node's rule does without going a level down.
 use Rattle.std.proofs.Common.{◌≡◌, ◌+◌, ◌-◌, ◌*◌}
+use Rattle.workspace.specs.Counts.{sum}
 use Rattle.ast.specs.Node.{offset_at, count_at, first_at, next_at}
 use Rattle.lowering.specs.Held.{Held}
 use Rattle.builder.specs.Done.{held}
@@ -114,10 +115,10 @@ invariant-host-loop l =
     (R.under t l.inside.levels (R.host_arguments t) l.node.at l.f l.k l.m (first_at t l.node.at) l.inside.looping (held l.initial.b)))
     × (l.b.words.ghost_name ≡ l.initial.b.words.ghost_name) × (l.argument.image ≡ l.node.image)
 
-abbrev pub invariant-segs-loop : goal.invariant-segs-loop
-invariant-segs-loop l =
+abbrev pub invariant-segs-loop-i : goal.invariant-segs-loop-i
+invariant-segs-loop-i l =
     let t = l.a.image.now.now in
-    (◌≡◌ {A = Held} (R.under t l.levels (R.arguments t) l.base l.waiting (l.m - l.counter) l.argument.at l.slot (held l.b))
+    (◌≡◌ {A = Held} (R.under t l.levels (R.arguments t) l.base l.waiting (l.m - l.i) l.argument.at (sum l.first l.i) (held l.b))
     (R.under t l.levels (R.arguments t) l.base l.waiting l.m l.a.at l.first (held l.initial.b)))
     × (l.b.words.ghost_name ≡ l.initial.b.words.ghost_name) × (l.argument.image ≡ l.a.image)
 
