@@ -1,6 +1,5 @@
 // The payload kinds, each with its number in the tree image.
-ghost use Rattle.std.specs.Prelude.{◌≡◌, ◌<◌, ◌≤◌, MatchResult};
-ghost use Rattle.ast.specs.Kinds.{number_of};
+ghost use Rattle.ast.specs.Kinds.{KindOf};
 
 #[derive(Clone, Copy, Debug, PartialEq, Eq)]
 pub enum Kind {
@@ -26,7 +25,7 @@ pub struct UnknownKind(pub u8);
 impl TryFrom<u8> for Kind {
     type Error = UnknownKind;
 
-    ghost try_from_gives = { λ number r. MatchResult r (λ kind. (number_of kind ≡ number) × (number ≤ 12)) (λ e. (e.0 ≡ number) × (12 < number)) };
+    ghost try_from_gives = { KindOf };
 
     fn try_from(number: u8) -> Result<Self, UnknownKind> {
         match number {

@@ -56,7 +56,7 @@ fn name_of(node: Node<'_>) -> NameRef
 pub fn payload_of(node: Node<'_>) -> Payload
     ensures { result ≡ payload_ref_at (bytes node.entry) node.entry.at }
 {
-    match Kind::try_from(node.kind()) {
+    match node.kind() {
         Ok(Kind::None) => Payload::None,
         Ok(Kind::Float) => Payload::Float(wire::get_u32(*node.image, node.at, 14)),
         Ok(Kind::Hash) => Payload::Hash(wire::get_u64(*node.image, node.at, 14)),

@@ -9,7 +9,6 @@ ghost use Rattle.tree.specs.Nodes.{bytes};
 
 use answers::refusals::Refusal;
 use ast::header;
-use ast::kinds::Kind;
 use tree::Node;
 
 // The node, whose payload takes `size` bytes, is known, holds its own fields, and ends at `end` or before. One test after the other is faster than a chain.
@@ -18,7 +17,7 @@ fn fits_at(node: Node<'_>, size: u16, end: usize) -> bool
     requires { size ≡ size_at (bytes node) node.at }
     ensures { result ≡ fits (bytes node.entry) node.entry.at end }
 {
-    if node.rule() == 0 || Kind::try_from(node.kind()).is_err() {
+    if node.rule() == 0 || node.kind().is_err() {
         return false;
     }
     let len = node.length() as usize;

@@ -4,32 +4,17 @@
 ghost use Rattle.std.specs.Prelude.{◌≡◌, ◌<◌, ◌≤◌, length};
 ghost use Rattle.wire.specs.Bytes.{reach};
 ghost use Rattle.ast.specs.Rules.{rule_of};
-ghost use Rattle.ast.specs.Node.{len_at, op_at, scale_at, offset_at, kind_at, size_of, size_at, count_at, first_at, next_at};
+ghost use Rattle.ast.specs.Kinds.{KindOf};
+ghost use Rattle.ast.specs.Node.{len_at, op_at, scale_at, offset_at, kind_at, size_at, count_at, first_at, next_at};
 ghost use Rattle.tree.specs.Nodes.{bytes};
 
-use ast::kinds::Kind;
+use ast::kinds::{Kind, UnknownKind};
 
 // Two words, which go in registers: with the image's slice in it, of three words, lists of short statements were a third slower.
 #[derive(Clone, Copy, Drop)]
 pub struct Node<'a> {
     pub image: &'a &'a [u8],
     pub at: usize,
-}
-
-// A name has its hash, its text's length and its text. Of any byte: what the image has need be no kind's.
-#[tactic(auto, unfolding(ast::specs::Node::size_of))]
-fn size_of(kind: u8, text: u8) -> u16
-    ensures { (result ≡ size_of kind text) × (result < 265) }
-{
-    match Kind::try_from(kind) {
-        Ok(Kind::None) => 0,
-        Ok(Kind::Float) => 4,
-        Ok(Kind::Hash) => 8,
-        Ok(Kind::Query) => 3,
-        Ok(Kind::HostMath) => 2,
-        Ok(_) => 9 + u16::from(text),
-        Err(_) => 0,
-    }
 }
 
 // The place `k` bytes behind `p`, or the end.
@@ -78,11 +63,11 @@ impl<'a> Node<'a> {
         wire::get_u32(*self.image, self.at, 9)
     }
 
-    // The payload's kind.
-    pub fn kind(self) -> u8
-        ensures { result ≡ kind_at (bytes self.entry) self.entry.at }
+    // The payload's kind: what the image has need be no kind's.
+    pub fn kind(self) -> Result<Kind, UnknownKind>
+        ensures { KindOf (kind_at (bytes self.entry) self.entry.at) result }
     {
-        wire::get_u8(*self.image, self.at, 13)
+        Kind::try_from(wire::get_u8(*self.image, self.at, 13))
     }
 
     // What begins `k` bytes behind, or at the end.
@@ -95,11 +80,20 @@ impl<'a> Node<'a> {
         }
     }
 
-    // The bytes that the payload takes.
+    // The bytes that the payload takes. A name has its hash, its text's length and its text.
+    #[tactic(auto, unfolding(ast::specs::Node::size_of))]
     pub fn size(self) -> u16
         ensures { (result ≡ size_at (bytes self.entry) self.entry.at) × (result < 265) }
     {
-        size_of(self.kind(), wire::get_u8(*self.image, self.at, 22))
+        match self.kind() {
+            Ok(Kind::None) => 0,
+            Ok(Kind::Float) => 4,
+            Ok(Kind::Hash) => 8,
+            Ok(Kind::Query) => 3,
+            Ok(Kind::HostMath) => 2,
+            Ok(_) => 9 + u16::from(wire::get_u8(*self.image, self.at, 22)),
+            Err(_) => 0,
+        }
     }
 
     // How many children the node has.
