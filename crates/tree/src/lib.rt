@@ -21,10 +21,7 @@ pub struct Node<'a> {
 pub fn place(s: &[u8], p: usize, k: usize) -> usize
     ensures { (result ≡ reach s.now p k) × (result ≤ length s.now) }
 {
-    if s.len() <= p {
-        return s.len();
-    }
-    if k <= s.len() - p { p + k } else { s.len() }
+    p.saturating_add(k).min(s.len())
 }
 
 impl<'a> Node<'a> {
