@@ -22,13 +22,6 @@ pub enum Refusal {
 }
 
 impl Refusal {
-    // The number of the question. A variant's number is had by `as` alone.
-    pub fn number(self) -> u8
-        ensures { result ≡ number_of self }
-    {
-        self as u8
-    }
-
     // What is said of the refusal to people.
     pub fn text(self) -> &'static str
         ensures { result.now ≡ text_of (number_of self) }
@@ -48,6 +41,15 @@ impl Refusal {
             Refusal::WriteToOtherMob => "an assignment writes to another mob",
             Refusal::SmallOutput => "the program image is longer than the output",
         }
+    }
+}
+
+// The number of the question. A variant's number is had by `as` alone.
+impl From<Refusal> for u8 {
+    ghost from_gives = { λ why number. number ≡ number_of why };
+
+    fn from(why: Refusal) -> u8 {
+        why as u8
     }
 }
 

@@ -24,5 +24,5 @@ pub fn compile(rt: &(impl Print + Eprint), tree: &[u8]) -> Done
 
 // The refusal's number and its text. Standard output gets nothing, and all of that is written.
 fn refused(rt: &impl Eprint, why: Refusal) {
-    let _ = eprintln!(rt; "refused {}: {why}", why.number());
+    let _ = eprintln!(rt; "refused {}: {why}", u8::from(why));
 }

@@ -17,7 +17,7 @@ pub fn list(rt: &impl Print, tree: &[u8]) -> Done
     let answer = crate::answer(tree, &mut out);
     let written = match answer {
         Ok(n) => listing(rt, &out[..n]),
-        Err(why) => println!(rt; "refused {}", why.number()),
+        Err(why) => println!(rt; "refused {}", u8::from(why)),
     };
     Done { answer, written }
 }

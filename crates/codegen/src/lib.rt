@@ -40,7 +40,7 @@ fn pack(a: Result<usize, Refusal>) -> u64
 {
     match a {
         Ok(n) => n as u64,
-        Err(why) => u64::from(why.number()) * 4294967296,
+        Err(why) => u64::from(u8::from(why)) * 4294967296,
     }
 }
 

@@ -61,7 +61,7 @@ fn compared(tree: &[u8], refusal: u32, image: &[u8]) -> Option<Difference> {
 fn refusal_of(answer: Result<usize, Refusal>) -> u32 {
     match answer {
         Ok(_) => 0,
-        Err(why) => u32::from(why.number()),
+        Err(why) => u32::from(u8::from(why)),
     }
 }
 
