@@ -3,8 +3,6 @@
 
 ghost use Rattle.std.specs.Prelude.{◌≡◌, [], ◌++◌, ◌+◌, ◌*◌, ◌^◌, ◌≤◌, ◌<◌, length};
 ghost use Rattle.wire.specs.Bytes.{be};
-ghost use Rattle.numeric.specs.Post.{identity};
-ghost use Rattle.numeric.specs.PostOp.{patterns};
 ghost use Rattle.card.specs.Written.{Wrote, cat};
 ghost use Rattle.card.specs.Puts.{Room, Puts};
 ghost use Rattle.card.specs.Image.{code_section, posts_section, hashes_section, closing_bytes, body_of, image_of};
@@ -16,17 +14,6 @@ use crate::fields::{Entries, Words, Writer};
 use crate::measure::Sums;
 use numeric::{PostBits, PostOp};
 use workspace::layout;
-
-// Slot 0: the identity by its bit patterns.
-fn identity_bits() -> PostBits
-    ensures { patterns result ≡ identity }
-{
-    let one = PostOp::IDENTITY;
-    PostBits {
-        scale: numeric::bits_of(one.scale),
-        offset: numeric::bits_of(one.offset),
-    }
-}
 
 impl Writer<'_> {
     // A section: the count of its entries, and the entries.
@@ -59,12 +46,13 @@ impl Writer<'_> {
         self.all(&finished, usize::from(m));
     }
 
-    #[tactic(auto, using(crate::proofs::Join::writing), unfolding(crate::specs::Image::posts_section))]
+    // Slot 0, the identity, by its bit patterns, and the further posts.
+    #[tactic(auto, using(crate::proofs::Join::writing, numeric::proofs::Identity::identity_patterns), unfolding(crate::specs::Image::posts_section))]
     fn posts(&mut self, ws: &[u32], n: u16)
         requires { Room self.old (12 + 8 * n) }
         ensures { Puts self.old self.new (posts_section ws.now n) (12 + 8 * n) }
     {
-        let plain = identity_bits();
+        let plain = PostBits::from(PostOp::IDENTITY);
         let further = Words {
             ws,
             from: layout::POSTS,

@@ -43,7 +43,7 @@ pub(crate) fn post(b: &mut Builder<'_>, node: Node<'_>) -> PostIdx
     ensures { Gave b.old b.new result.0 (B.post (post_bits (bytes node.entry) node.entry.at)) }
 {
     let bits = bits_of(node);
-    interning::post_of(b, PostOp::of_bits(bits.scale, bits.offset), bits)
+    interning::post_of(b, PostOp::from(bits), bits)
 }
 
 // An instruction with the node's post.
@@ -61,7 +61,7 @@ pub(crate) fn post_instr(b: &mut Builder<'_>, node: Node<'_>)
     ensures { Did b.old b.new (post_instr (bytes node.entry) node.entry.at) }
 {
     let bits = bits_of(node);
-    if interning::is_identity(PostOp::of_bits(bits.scale, bits.offset), bits) {
+    if interning::is_identity(PostOp::from(bits), bits) {
         b.flush();
         return;
     }

@@ -73,8 +73,7 @@ fn resource_hash(p: Payload) -> u64
 pub(crate) fn folded(node: Node<'_>, raw: u32) -> u32
     ensures { result ≡ fold (post_bits (bytes node.entry) node.entry.at) raw }
 {
-    let bits = bits_of(node);
-    PostOp::of_bits(bits.scale, bits.offset).fold(raw)
+    PostOp::from(bits_of(node)).fold(raw)
 }
 
 // The constant behind a statement list: its offset alone.

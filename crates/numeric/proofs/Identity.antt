@@ -14,8 +14,8 @@ use lib.Ieee.Exact.{HasValue}
 use lib.Ieee.Back.{whole_unique}
 use borrow.Author.Tests.{eqb-true, eq-eqb}
 use Rattle.std.proofs.lemmas.Bool.{and_parts, or_cases}
-use Rattle.numeric.specs.Post.{Post, is_identity, scaled, fold}
-use Rattle.numeric.specs.PostOp.{post_of, identity_op, scaled_op, fold_op}
+use Rattle.numeric.specs.Post.{Post, identity, is_identity, scaled, fold}
+use Rattle.numeric.specs.PostOp.{post_of, patterns_of, identity_op, scaled_op, fold_op}
 
 -- two tests that each pass where the other does
 same_test : (a b : Bool) → (a ≡ true → b ≡ true) → (b ≡ true → a ≡ true) → a ≡ b
@@ -90,3 +90,8 @@ identity_is p hs ho = ap₂ (λ (a b : Bool). a && b) (one_test p.scale hs) (zer
 pub fold_is : (p : Post) (raw : ℕ) → p.scale < 4294967296 → p.offset < 4294967296 → fold_op (post_of p) raw ≡ fold p raw
 unfolding fold_op fold scaled_op scaled
 fold_is p raw hs ho = ap (λ (b : Bool). cond b raw (scaled p raw)) (identity_is p hs ho)
+
+-- the identity's floats have the identity's patterns
+pub identity_patterns : patterns_of (post_of identity) ≡ identity
+unfolding of_bits to_bits
+identity_patterns = refl

@@ -18,6 +18,10 @@ patterns p = post p.scale p.offset
 abbrev pub post_of : Post → PostOp
 post_of p = record { scale = of_bits binary32 p.scale; offset = of_bits binary32 p.offset }
 
+-- the patterns of a post's floats; a NaN's is 7FC00000
+abbrev pub patterns_of : PostOp → Post
+patterns_of p = post (to_bits binary32 p.scale) (to_bits binary32 p.offset)
+
 -- 1.0 and 0.0 by their patterns; `eq` takes -0.0 for 0.0
 unfoldable pub identity_op : PostOp → Bool
 identity_op p = eq p.scale (of_bits binary32 0x3f80_0000) && eq p.offset (of_bits binary32 0)

@@ -5,7 +5,7 @@
 ghost use Rattle.std.specs.Prelude.{◌≡◌};
 ghost use Rattle.std.specs.Float.{binary32};
 ghost use Rattle.std.specs.Float.Ieee.{to_bits};
-ghost use Rattle.numeric.specs.PostOp.{post, post_of, identity_op, fold_op};
+ghost use Rattle.numeric.specs.PostOp.{patterns, post_of, patterns_of, identity_op, fold_op};
 
 use std::num::{f32_from_bits_with_nan, f32_to_bits_with_nan};
 
@@ -36,15 +36,6 @@ impl PostOp {
         offset: 0.0,
     };
 
-    pub fn of_bits(scale: u32, offset: u32) -> PostOp
-        ensures { result ≡ post_of (post scale offset) }
-    {
-        PostOp {
-            scale: f32_from_bits_with_nan(scale),
-            offset: f32_from_bits_with_nan(offset),
-        }
-    }
-
     // Scale 1.0 with offset 0.0 or -0.0: the identity test, which a rule of the project names.
     #[tactic(auto, unfolding(crate::specs::PostOp::identity_op))]
     pub fn is_identity(self) -> bool
@@ -63,5 +54,28 @@ impl PostOp {
         }
         let x = f32_from_bits_with_nan(raw);
         bits_of(x * self.scale + self.offset)
+    }
+}
+
+impl From<PostBits> for PostOp {
+    ghost from_gives = { λ bits p. p ≡ post_of (patterns bits) };
+
+    fn from(bits: PostBits) -> PostOp {
+        PostOp {
+            scale: f32_from_bits_with_nan(bits.scale),
+            offset: f32_from_bits_with_nan(bits.offset),
+        }
+    }
+}
+
+// A NaN's pattern is 7FC00000.
+impl From<PostOp> for PostBits {
+    ghost from_gives = { λ p bits. patterns bits ≡ patterns_of p };
+
+    fn from(p: PostOp) -> PostBits {
+        PostBits {
+            scale: bits_of(p.scale),
+            offset: bits_of(p.offset),
+        }
     }
 }

@@ -9,5 +9,5 @@ use Rattle.lowering.proofs.values.folded.Goals as goal
 pub returns : goal.returns
 returns c =
     let raw = c.args.raw in
-    let bits = c.bits_of-bits in
-    c.fold.ensures ∙ ap (λ (q : PostOp). fold_op q raw) c.of_bits.ensures ∙ fold_is (patterns bits.result) raw (omega arith) (omega arith) ∙ ap (λ (p : Post). fold p raw) bits.ensures
+    let bits = c.bits_of in
+    c.fold.ensures ∙ ap (λ (q : PostOp). fold_op q raw) c.from.ensures ∙ fold_is (patterns bits.result) raw (omega arith) (omega arith) ∙ ap (λ (p : Post). fold p raw) bits.ensures
