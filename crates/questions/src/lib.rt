@@ -4,7 +4,7 @@
 ghost use Rattle.std.specs.Prelude.{◌≡◌};
 ghost use Rattle.answers.specs.Refusals.{number_of_result};
 ghost use Rattle.ast.specs.Node.{size_at};
-ghost use Rattle.ast.specs.Questions.{fits, row, filled, whole, questions};
+ghost use Rattle.ast.specs.Questions.{fits, row, filled, rooted, whole, shallow, questions};
 ghost use Rattle.tree.specs.Nodes.{bytes};
 
 use answers::refusals::Refusal;
@@ -65,8 +65,27 @@ fn whole_at(s: &[u8]) -> bool
         && header::SHORTEST + (wire::get_u32(s, 0, header::REST) as usize) == s.len()
 }
 
+// The root is right to so many levels, and nothing is left over.
+#[tactic(auto, unfolding(ast::specs::Questions::rooted))]
+fn rooted_at(tree: &[u8], levels: u16) -> bool
+    ensures { result ≡ rooted levels tree.now }
+{
+    let root = Node {
+        image: &tree,
+        at: header::ROOT,
+    };
+    row_at(root, levels, 1, tree.len())
+}
+
+#[tactic(auto, unfolding(ast::specs::Questions::shallow))]
+fn shallow_at(tree: &[u8]) -> bool
+    ensures { result ≡ shallow tree.now }
+{
+    rooted_at(tree, header::LEVELS)
+}
+
 // The first of questions 2 to 4 that is answered by no.
-#[tactic(auto, using(crate::proofs::MoreLevels::more_levels), unfolding(ast::specs::Questions::questions, ast::specs::Questions::formed, ast::specs::Questions::shallow, ast::specs::Questions::rooted))]
+#[tactic(auto, using(crate::proofs::MoreLevels::all_levels), unfolding(ast::specs::Questions::questions, ast::specs::Questions::formed))]
 pub fn check_image(tree: &[u8]) -> Result<(), Refusal>
     ensures { number_of_result result ≡ questions tree.now }
 {
@@ -76,15 +95,11 @@ pub fn check_image(tree: &[u8]) -> Result<(), Refusal>
     if 1 < wire::get_u8(tree, 0, header::ARRAYS) || 1 < wire::get_u8(tree, 0, header::DIVISOR) {
         return Err(Refusal::Damaged);
     }
-    let root = Node {
-        image: &tree,
-        at: header::ROOT,
-    };
-    if row_at(root, header::LEVELS, 1, tree.len()) {
+    if shallow_at(tree) {
         return Ok(());
     }
     // This pass tells 3 from 4.
-    if row_at(root, header::ALL_LEVELS, 1, tree.len()) {
+    if rooted_at(tree, header::ALL_LEVELS) {
         return Err(Refusal::TooDeep);
     }
     Err(Refusal::Damaged)
