@@ -1,7 +1,7 @@
 // The generator: a tree image to its program image, over a lent workspace.
 #![tactic(auto)]
 
-ghost use Rattle.std.specs.Prelude.{◌≡◌, cond, false, ◌≤◌, length};
+ghost use Rattle.std.specs.Prelude.{◌≡◌, cond, ◌≤◌, length};
 ghost use Rattle.std.specs.Int.Bits.{bit_and};
 ghost use Rattle.workspace.specs.Layout.{WORDS};
 ghost use Rattle.ast.specs.Questions.{questions};
@@ -101,7 +101,7 @@ fn sections(s: State<Refusal>) -> Sections
         loops: most.loops,
         handlers: most.handlers,
         flags: final_flags(s.flags, fits),
-        float_loop: final_loop(s.float_loop, fits),
+        float_loop: s.float_loop && fits,
     }
 }
 
@@ -113,13 +113,4 @@ fn final_flags(flags: u16, fits: bool) -> u16
         return flags;
     }
     flags & Flags::NOT_FLOAT
-}
-
-fn final_loop(float_loop: bool, fits: bool) -> bool
-    ensures { result ≡ cond fits float_loop false }
-{
-    if fits {
-        return float_loop;
-    }
-    false
 }
