@@ -3,6 +3,7 @@
 ghost use Rattle.std.specs.Prelude.{◌≡◌, ◌+◌, ◌*◌, ◌<◌};
 ghost use Rattle.code.specs.Segments.{emitted, emitted_top, targeted, break_resolved, range_resolved, Idle, relocated_one, relocated_range, moved, moved_count};
 
+use program::opcodes::Opcode;
 use program::targets;
 use workspace::layout;
 use workspace::words::{plus, put_pair, put_word, word};
@@ -12,7 +13,7 @@ pub const BREAK: u32 = 0xfa00_0000;
 
 pub const CONTINUE: u32 = 0xfb00_0000;
 
-pub const JUMP: u32 = 0x2000_0000;
+const JUMP: u32 = Opcode::Jump as u32 * 16777216;
 
 // Appends an instruction to the open code, and gives the place after it.
 #[tactic(auto, unfolding(crate::specs::Segments::emitted, crate::specs::Segments::emitted_top))]
