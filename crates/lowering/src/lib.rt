@@ -308,7 +308,7 @@ fn compare(b: &mut Builder<'_>, node: Node<'_>, o: Comparison, inside: Inside)
         return comparisons::compare_const(b, node, o, q);
     }
     binary(b, a, inside);
-    instr(b, Opcode::Cmp, o.number(), 0, q);
+    instr(b, Opcode::Cmp, o.into(), 0, q);
     pop(b, 1);
 }
 
@@ -328,7 +328,7 @@ fn equal(b: &mut Builder<'_>, node: Node<'_>, o: Equality, inside: Inside)
         return comparisons::equal_const(b, node, o, q);
     }
     binary(b, a, inside);
-    instr(b, Opcode::Eq, o.number(), 0, q);
+    instr(b, Opcode::Eq, o.into(), 0, q);
     pop(b, 1);
 }
 
@@ -471,7 +471,7 @@ fn div(b: &mut Builder<'_>, node: Node<'_>, inside: Inside)
     }
     let a = node.first();
     expr(b, a.next(), inside);
-    let e = emit_jump(b, Opcode::DivGuard, divisor(*node.image).number(), 0);
+    let e = emit_jump(b, Opcode::DivGuard, divisor(*node.image).into(), 0);
     steps::operand(b);
     expr(b, a, inside);
     put_post(b, node, Opcode::Div, 0, 0);
