@@ -1,18 +1,30 @@
 // Instructions of two words in the workspace: the open code and the finished argument code.
 // An instruction's words: opcode * 2^24 + sub * 2^16 + B, then A. A full region is left as it is.
 ghost use Rattle.std.specs.Prelude.{◌≡◌, ◌+◌, ◌*◌, ◌<◌};
-ghost use Rattle.code.specs.Segments.{emitted, emitted_top, targeted, break_resolved, range_resolved, Idle, relocated_one, relocated_range, moved, moved_count};
+ghost use Rattle.code.specs.Segments.{emitted, emitted_top, targeted, front_of, break_resolved, range_resolved, Idle, relocated_one, relocated_range, moved, moved_count};
 
 use program::opcodes::Opcode;
 use program::targets;
 use workspace::layout;
 use workspace::words::{plus, put_pair, put_word, word};
 
-// The first words of a Break and a Continue that wait for their loop (no opcodes of the card), and of a Jump. Numbers, since the lent workspace is words.
-pub const BREAK: u32 = 0xfa00_0000;
+// A Break and a Continue that wait for their loop, by their first words: no opcodes of the card.
+#[derive(Clone, Copy, Debug, PartialEq, Eq)]
+pub enum Waiting {
+    Break = 0xfa00_0000,
+    Continue = 0xfb00_0000,
+}
 
-pub const CONTINUE: u32 = 0xfb00_0000;
+// A variant's number is had by `as` alone.
+impl From<Waiting> for u32 {
+    ghost from_gives = { λ w front. front ≡ front_of w };
 
+    fn from(w: Waiting) -> u32 {
+        w as u32
+    }
+}
+
+// The first word of a Jump.
 const JUMP: u32 = Opcode::Jump as u32 * 16777216;
 
 // Appends an instruction to the open code, and gives the place after it.
@@ -45,11 +57,11 @@ fn resolve_break(ws: &mut [u32], at: usize, check: u32, cleanup: u32)
 {
     let i = at * 2;
     let front = word(ws, i);
-    if front == BREAK {
+    if front == u32::from(Waiting::Break) {
         put_pair(ws, i, JUMP, cleanup);
         return;
     }
-    if front == CONTINUE {
+    if front == u32::from(Waiting::Continue) {
         put_pair(ws, i, JUMP, check);
     }
 }

@@ -1,5 +1,6 @@
 // Control: breaks, the ends of loops, the step of a ForEach variable.
 ghost use Rattle.std.specs.Prelude.{◌≡◌};
+ghost use Rattle.code.specs.Segments.{front_of};
 ghost use Rattle.builder.specs.Done.{Did};
 ghost use Rattle.lowering.specs.Done.{Gave};
 ghost use Rattle.lowering.specs.Parts.{jump_out, loop_closed, each_closed, each_next};
@@ -7,16 +8,17 @@ ghost use Rattle.lowering.specs.Parts.{jump_out, loop_closed, each_closed, each_
 use crate::Builder;
 use crate::interning::VariableIdx;
 use crate::parts::{emit_jump, instr, place_target};
+use code::segment::Waiting;
 use program::PostIdx;
 use program::opcodes::Opcode;
 
 // A Break or Continue that waits for its loop; Halt where none is open.
 #[tactic(auto, unfolding(crate::specs::Parts::jump_out))]
-pub(crate) fn jump_out(b: &mut Builder<'_>, waits: u32, looping: bool)
-    ensures { Did b.old b.new (jump_out waits looping) }
+pub(crate) fn jump_out(b: &mut Builder<'_>, waits: Waiting, looping: bool)
+    ensures { Did b.old b.new (jump_out (front_of waits) looping) }
 {
     if looping {
-        b.put(waits, 0);
+        b.put(waits.into(), 0);
         return;
     }
     instr(b, Opcode::Halt, 0, 0, PostIdx::PLAIN);

@@ -29,7 +29,7 @@ ghost use Rattle.lowering.specs.Rules as R;
 use answers::refusals::Refusal;
 use ast::{header, operators};
 use builder::State;
-use code::segment;
+use code::segment::Waiting;
 use depth::Depth;
 use inside::Inside;
 use interning::VariableIdx;
@@ -127,8 +127,8 @@ fn leaf(b: &mut Builder<'_>, node: Node<'_>, looping: bool, rule: u8)
         operators::ENTITY_VARIABLE => values::load(b, node),
         operators::TEMP_VARIABLE => values::load(b, node),
         operators::CONTEXT_VARIABLE => values::load(b, node),
-        operators::BREAK => control::jump_out(b, segment::BREAK, looping),
-        operators::CONTINUE => control::jump_out(b, segment::CONTINUE, looping),
+        operators::BREAK => control::jump_out(b, Waiting::Break, looping),
+        operators::CONTINUE => control::jump_out(b, Waiting::Continue, looping),
         operators::RETURN => values::generic_constant(b, node),
         operators::PI => values::generic_constant(b, node),
         operators::LEFT_BRACE => values::generic_constant(b, node),
