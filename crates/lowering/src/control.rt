@@ -8,7 +8,7 @@ ghost use Rattle.lowering.specs.Parts.{jump_out, loop_closed, each_closed, each_
 use crate::Builder;
 use crate::interning::VariableIdx;
 use crate::parts::{emit_jump, instr, place_target};
-use code::segment::Waiting;
+use code::segment::{Ends, Waiting};
 use program::PostIdx;
 use program::opcodes::Opcode;
 
@@ -30,7 +30,8 @@ pub(crate) fn close_loop(b: &mut Builder<'_>, at: u16)
     ensures { Did b.old b.new (loop_closed at) }
 {
     let check = u32::from(b.state.place());
-    b.resolve_breaks(at.saturating_add(1), check, check + 1);
+    let cleanup = check + 1;
+    b.resolve_breaks(at.saturating_add(1), Ends { check, cleanup });
     instr(b, Opcode::LoopCheck, 0, u32::from(at) + 1, PostIdx::PLAIN);
     instr(b, Opcode::LoopEnd, 0, 0, PostIdx::PLAIN);
     place_target(b, at);
@@ -41,9 +42,10 @@ pub(crate) fn close_loop(b: &mut Builder<'_>, at: u16)
 pub(crate) fn close_each(b: &mut Builder<'_>, begin: u16, next: u16)
     ensures { Did b.old b.new (each_closed begin next) }
 {
-    let back = u32::from(b.state.place());
-    b.resolve_breaks(next.saturating_add(1), u32::from(next), back + 1);
-    instr(b, Opcode::Jump, 0, u32::from(next), PostIdx::PLAIN);
+    let check = u32::from(next);
+    let cleanup = u32::from(b.state.place()) + 1;
+    b.resolve_breaks(next.saturating_add(1), Ends { check, cleanup });
+    instr(b, Opcode::Jump, 0, check, PostIdx::PLAIN);
     place_target(b, next);
     instr(b, Opcode::LoopEnd, 0, 0, PostIdx::PLAIN);
     place_target(b, begin);

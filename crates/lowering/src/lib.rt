@@ -29,7 +29,7 @@ ghost use Rattle.lowering.specs.Rules as R;
 use answers::refusals::Refusal;
 use ast::{header, operators};
 use builder::State;
-use code::segment::Waiting;
+use code::segment::{Ends, Waiting};
 use depth::Depth;
 use inside::Inside;
 use interning::VariableIdx;
@@ -63,7 +63,7 @@ pub fn lower(tree: &[u8], ws: &mut [u32]) -> State<Refusal>
     };
     expr(&mut b, root, inside);
     instr(&mut b, Opcode::End, 0, 0, PostIdx::PLAIN);
-    b.resolve_breaks(0, 0, 0);
+    b.resolve_breaks(0, Ends::START);
     b.state
 }
 
