@@ -12,7 +12,7 @@ use depth::Depth;
 use program::ConstIdx;
 use program::opcodes::Opcode;
 
-// The first words of Push, PushConst and Const.
+// The first words of Push, PushConst and Const. By `as`: a constant can call no function.
 const PUSH: u32 = Opcode::Push as u32 * 16777216;
 
 const PUSH_CONST: u32 = Opcode::PushConst as u32 * 16777216;

@@ -1,7 +1,8 @@
 // Instructions of two words in the workspace: the open code and the finished argument code.
 // An instruction's words: opcode * 2^24 + sub * 2^16 + B, then A. A full region is left as it is.
 ghost use Rattle.std.specs.Prelude.{◌≡◌, ◌+◌, ◌*◌, ◌<◌};
-ghost use Rattle.code.specs.Segments.{emitted, emitted_top, targeted, front_of, break_resolved, range_resolved, Idle, relocated_one, relocated_range, moved, moved_count};
+ghost use Rattle.code.specs.Segments.{emitted, emitted_top, targeted, front_of, break_resolved, range_resolved, Idle};
+ghost use Rattle.code.specs.Segments.{relocated_one, relocated_range, moved, moved_count};
 
 use program::opcodes::Opcode;
 use program::targets;
@@ -39,7 +40,7 @@ impl Ends {
     };
 }
 
-// The first word of a Jump.
+// The first word of a Jump. By `as`: a constant can call no function.
 const JUMP: u32 = Opcode::Jump as u32 * 16777216;
 
 // Appends an instruction to the open code, and gives the place after it.
