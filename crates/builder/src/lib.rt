@@ -10,13 +10,14 @@ ghost use Rattle.builder.specs.Steps.{emitted, flushed, put, put_const, still, p
 use code::segment;
 use depth::Depth;
 use program::ConstIdx;
+use program::opcodes::Opcode;
 
-// The first words of Push, PushConst and Const.
-const PUSH: u32 = 0x0d00_0000;
+// The first words of Push, PushConst and Const. By `as`: a constant can call no function.
+const PUSH: u32 = Opcode::Push as u32 * 16777216;
 
-const PUSH_CONST: u32 = 0x0e00_0000;
+const PUSH_CONST: u32 = Opcode::PushConst as u32 * 16777216;
 
-const CONST: u32 = 0x0100_0000;
+const CONST: u32 = Opcode::Const as u32 * 16777216;
 
 // How much of each region is in use, the depth, the open segment, the finished code, flags, a waiting Push, and the first refusal, of the caller's type R.
 #[derive(Clone, Copy, Drop)]

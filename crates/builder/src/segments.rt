@@ -5,7 +5,7 @@ ghost use Rattle.builder.specs.Steps.{still};
 ghost use Rattle.builder.specs.Segments.{within, targeted, breaks_resolved, opened, closed};
 
 use crate::{Builder, State};
-use code::segment;
+use code::segment::{self, Ends};
 
 impl<R: Copy + Drop> State<R> {
     // Where the next instruction goes, counted from the segment's start.
@@ -34,12 +34,12 @@ impl<'a, R: Copy + Drop> Builder<'a, R> {
 
     // Aims the Breaks and Continues from a place of the open segment to its end.
     #[tactic(auto, unfolding(crate::specs::Segments::breaks_resolved))]
-    pub fn resolve_breaks(&mut self, at: u16, check: u32, cleanup: u32)
-        ensures { Did self.old self.new (λ h. (h.0, breaks_resolved h.0 at check cleanup h.1)) }
+    pub fn resolve_breaks(&mut self, at: u16, ends: Ends)
+        ensures { Did self.old self.new (λ h. (h.0, breaks_resolved h.0 at ends.check ends.cleanup h.1)) }
     {
         let from = self.state.absolute(at);
         let count = self.state.top.saturating_sub(from);
-        segment::resolve_breaks(self.words, from, count, check, cleanup);
+        segment::resolve_breaks(self.words, from, count, ends);
     }
 
     // An argument's segment begins behind the open one; no Push waits.

@@ -4,6 +4,8 @@ use Rattle.std.proofs.lemmas.List.Edits.{sets}
 use Rattle.workspace.specs.Layout.{FINISHED, CODE_ROOM}
 use Rattle.workspace.specs.Words.{plus}
 use Rattle.program.specs.Targets.{shift_of}
+use Rattle.code.specs.declared.segment.Waiting.{Waiting}
+use Rattle.code.specs.declared.segment.Waiting.TheVariants as W
 
 -- appended to the open code; a full region is left as it is
 unfoldable pub emitted : List ℕ → ℕ → ℕ → ℕ → List ℕ
@@ -25,6 +27,11 @@ CONTINUE = 0xfb00_0000
 
 abbrev pub JUMP : ℕ
 JUMP = 0x2000_0000
+
+-- the first word of each that waits
+abbrev pub front_of : Waiting → ℕ
+front_of W.Break = BREAK
+front_of W.Continue = CONTINUE
 
 -- a Break or Continue of a loop's body becomes a Jump
 unfoldable pub break_resolved : List ℕ → ℕ → ℕ → ℕ → List ℕ

@@ -1,18 +1,47 @@
 // Instructions of two words in the workspace: the open code and the finished argument code.
 // An instruction's words: opcode * 2^24 + sub * 2^16 + B, then A. A full region is left as it is.
 ghost use Rattle.std.specs.Prelude.{◌≡◌, ◌+◌, ◌*◌, ◌<◌};
-ghost use Rattle.code.specs.Segments.{emitted, emitted_top, targeted, break_resolved, range_resolved, Idle, relocated_one, relocated_range, moved, moved_count};
+ghost use Rattle.code.specs.Segments.{emitted, emitted_top, targeted, front_of, break_resolved, range_resolved, Idle};
+ghost use Rattle.code.specs.Segments.{relocated_one, relocated_range, moved, moved_count};
 
+use program::opcodes::Opcode;
 use program::targets;
 use workspace::layout;
 use workspace::words::{plus, put_pair, put_word, word};
 
-// The first words of a Break and a Continue that wait for their loop (no opcodes of the card), and of a Jump. Numbers, since the lent workspace is words.
-pub const BREAK: u32 = 0xfa00_0000;
+// A Break and a Continue that wait for their loop, by their first words: no opcodes of the card.
+#[derive(Clone, Copy, Debug, PartialEq, Eq)]
+pub enum Waiting {
+    Break = 0xfa00_0000,
+    Continue = 0xfb00_0000,
+}
 
-pub const CONTINUE: u32 = 0xfb00_0000;
+// A variant's number is had by `as` alone.
+impl From<Waiting> for u32 {
+    ghost from_gives = { λ w front. front ≡ front_of w };
 
-pub const JUMP: u32 = 0x2000_0000;
+    fn from(w: Waiting) -> u32 {
+        w as u32
+    }
+}
+
+// Where a loop's Continues lead, and where its Breaks do: places of the open segment.
+#[derive(Clone, Copy, Drop)]
+pub struct Ends {
+    pub check: u32,
+    pub cleanup: u32,
+}
+
+impl Ends {
+    // The segment's start: no loop is open.
+    pub const START: Ends = Ends {
+        check: 0,
+        cleanup: 0,
+    };
+}
+
+// The first word of a Jump. By `as`: a constant can call no function.
+const JUMP: u32 = Opcode::Jump as u32 * 16777216;
 
 // Appends an instruction to the open code, and gives the place after it.
 #[tactic(auto, unfolding(crate::specs::Segments::emitted, crate::specs::Segments::emitted_top))]
@@ -38,18 +67,18 @@ pub fn set_target(ws: &mut [u32], at: u16, target: u32)
 
 // A Break or Continue that waits becomes a Jump to its loop's end or check.
 #[tactic(auto, unfolding(crate::specs::Segments::break_resolved))]
-fn resolve_break(ws: &mut [u32], at: usize, check: u32, cleanup: u32)
+fn resolve_break(ws: &mut [u32], at: usize, ends: Ends)
     requires { at < 4294967296 }
-    ensures { ws.new ≡ break_resolved ws.old at check cleanup }
+    ensures { ws.new ≡ break_resolved ws.old at ends.check ends.cleanup }
 {
     let i = at * 2;
     let front = word(ws, i);
-    if front == BREAK {
-        put_pair(ws, i, JUMP, cleanup);
+    if front == u32::from(Waiting::Break) {
+        put_pair(ws, i, JUMP, ends.cleanup);
         return;
     }
-    if front == CONTINUE {
-        put_pair(ws, i, JUMP, check);
+    if front == u32::from(Waiting::Continue) {
+        put_pair(ws, i, JUMP, ends.check);
     }
 }
 
@@ -73,25 +102,25 @@ fn eight_idle(ws: &[u32], at: usize) -> bool
 
 // The Breaks and Continues among `count` instructions, one by one.
 #[tactic(auto, using(crate::proofs::Runs::aim_next), unfolding(crate::specs::Segments::range_resolved))]
-fn resolve_each(ws: &mut [u32], from: usize, count: usize, check: u32, cleanup: u32)
+fn resolve_each(ws: &mut [u32], from: usize, count: usize, ends: Ends)
     requires { from + count < 4294967296 }
-    ensures { ws.new ≡ range_resolved ws.old from count check cleanup }
+    ensures { ws.new ≡ range_resolved ws.old from count ends.check ends.cleanup }
 {
     for i in 0..count {
-        resolve_break(ws, from + i, check, cleanup);
+        resolve_break(ws, from + i, ends);
     }
 }
 
 // Aims the Breaks and Continues of a loop's body: `count` instructions from a place of the open code on, eight passed at once where none of them waits.
-pub fn resolve_breaks(ws: &mut [u32], from: u16, count: u16, check: u32, cleanup: u32)
-    ensures { ws.new ≡ range_resolved ws.old from count check cleanup }
+pub fn resolve_breaks(ws: &mut [u32], from: u16, count: u16, ends: Ends)
+    ensures { ws.new ≡ range_resolved ws.old from count ends.check ends.cleanup }
 {
     let start = usize::from(from);
     let all = usize::from(count);
     for k in 0..all.div_ceil(8) {
         let passed = k * 8;
         if !eight_idle(ws, start + passed) {
-            resolve_each(ws, start + passed, (all - passed).min(8), check, cleanup);
+            resolve_each(ws, start + passed, (all - passed).min(8), ends);
         }
     }
 }

@@ -7,6 +7,7 @@ ghost use Rattle.lowering.specs.Parts.{call_begun, argument_closed};
 
 use crate::parts::instr;
 use crate::{Builder, regions};
+use code::segment::Ends;
 use payload::QueryRef;
 use program::opcodes::Opcode;
 use program::{CallIdx, PostIdx};
@@ -45,7 +46,7 @@ pub(crate) fn end_argument(b: &mut Builder<'_>, base: u16, waiting: bool, slot: 
     ensures { Did b.old b.new (argument_closed base waiting slot) }
 {
     instr(b, Opcode::End, 0, 0, PostIdx::PLAIN);
-    b.resolve_breaks(0, 0, 0);
+    b.resolve_breaks(0, Ends::START);
     let start = b.state.finished;
     b.close_segment(base, waiting);
     put_start(b.words, slot, start);

@@ -20,7 +20,7 @@ pub(crate) fn compare_const(b: &mut Builder<'_>, node: Node<'_>, o: Comparison, 
 {
     let p = payload_of(node);
     let index = interning::konst(b, constant_bits(p));
-    instr(b, Opcode::CmpConst, o.number(), index.0, q);
+    instr(b, Opcode::CmpConst, o.into(), index.0, q);
 }
 
 // A hash is compared as a hash, anything else as a float.
@@ -33,11 +33,11 @@ pub(crate) fn equal_const(b: &mut Builder<'_>, node: Node<'_>, o: Equality, q: P
         Payload::Hash(h) => {
             not_float_only(b);
             let index = interning::hash(b, h);
-            instr(b, Opcode::EqHash, o.number(), index.0, q);
+            instr(b, Opcode::EqHash, o.into(), index.0, q);
         }
         _ => {
             let index = interning::konst(b, float_bits(p));
-            instr(b, Opcode::EqConst, o.number(), index.0, q);
+            instr(b, Opcode::EqConst, o.into(), index.0, q);
         }
     }
 }

@@ -29,7 +29,7 @@ ghost use Rattle.lowering.specs.Rules as R;
 use answers::refusals::Refusal;
 use ast::{header, operators};
 use builder::State;
-use code::segment;
+use code::segment::{Ends, Waiting};
 use depth::Depth;
 use inside::Inside;
 use interning::VariableIdx;
@@ -63,7 +63,7 @@ pub fn lower(tree: &[u8], ws: &mut [u32]) -> State<Refusal>
     };
     expr(&mut b, root, inside);
     instr(&mut b, Opcode::End, 0, 0, PostIdx::PLAIN);
-    b.resolve_breaks(0, 0, 0);
+    b.resolve_breaks(0, Ends::START);
     b.state
 }
 
@@ -127,8 +127,8 @@ fn leaf(b: &mut Builder<'_>, node: Node<'_>, looping: bool, rule: u8)
         operators::ENTITY_VARIABLE => values::load(b, node),
         operators::TEMP_VARIABLE => values::load(b, node),
         operators::CONTEXT_VARIABLE => values::load(b, node),
-        operators::BREAK => control::jump_out(b, segment::BREAK, looping),
-        operators::CONTINUE => control::jump_out(b, segment::CONTINUE, looping),
+        operators::BREAK => control::jump_out(b, Waiting::Break, looping),
+        operators::CONTINUE => control::jump_out(b, Waiting::Continue, looping),
         operators::RETURN => values::generic_constant(b, node),
         operators::PI => values::generic_constant(b, node),
         operators::LEFT_BRACE => values::generic_constant(b, node),
@@ -308,7 +308,7 @@ fn compare(b: &mut Builder<'_>, node: Node<'_>, o: Comparison, inside: Inside)
         return comparisons::compare_const(b, node, o, q);
     }
     binary(b, a, inside);
-    instr(b, Opcode::Cmp, o.number(), 0, q);
+    instr(b, Opcode::Cmp, o.into(), 0, q);
     pop(b, 1);
 }
 
@@ -328,7 +328,7 @@ fn equal(b: &mut Builder<'_>, node: Node<'_>, o: Equality, inside: Inside)
         return comparisons::equal_const(b, node, o, q);
     }
     binary(b, a, inside);
-    instr(b, Opcode::Eq, o.number(), 0, q);
+    instr(b, Opcode::Eq, o.into(), 0, q);
     pop(b, 1);
 }
 
@@ -471,7 +471,7 @@ fn div(b: &mut Builder<'_>, node: Node<'_>, inside: Inside)
     }
     let a = node.first();
     expr(b, a.next(), inside);
-    let e = emit_jump(b, Opcode::DivGuard, divisor(*node.image).number(), 0);
+    let e = emit_jump(b, Opcode::DivGuard, divisor(*node.image).into(), 0);
     steps::operand(b);
     expr(b, a, inside);
     put_post(b, node, Opcode::Div, 0, 0);

@@ -17,7 +17,7 @@ use tree::Node;
 fn front(op: Opcode, sub: u8, b: u16) -> u32
     ensures { result ≡ front (number_of op) sub b }
 {
-    u32::from(op.number()) * 16777216 + u32::from(sub) * 65536 + u32::from(b)
+    u32::from(u8::from(op)) * 16777216 + u32::from(sub) * 65536 + u32::from(b)
 }
 
 // An instruction of these fields; a Push that waits comes first. The sub is a number: a comparison's, a divisor's, or a count of arguments.

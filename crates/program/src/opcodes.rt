@@ -54,12 +54,12 @@ pub enum Opcode {
     End = 48,
 }
 
-impl Opcode {
-    // The first byte of an instruction. A variant's number is had by `as` alone.
-    pub fn number(self) -> u8
-        ensures { result ≡ number_of self }
-    {
-        self as u8
+// The first byte of an instruction. A variant's number is had by `as` alone.
+impl From<Opcode> for u8 {
+    ghost from_gives = { λ op number. number ≡ number_of op };
+
+    fn from(op: Opcode) -> u8 {
+        op as u8
     }
 }
 

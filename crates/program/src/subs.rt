@@ -11,11 +11,11 @@ pub enum Comparison {
     Gt = 3,
 }
 
-impl Comparison {
-    pub fn number(self) -> u8
-        ensures { result ≡ comparison_of self }
-    {
-        self as u8
+impl From<Comparison> for u8 {
+    ghost from_gives = { λ c number. number ≡ comparison_of c };
+
+    fn from(c: Comparison) -> u8 {
+        c as u8
     }
 }
 
@@ -25,11 +25,11 @@ pub enum Equality {
     Ne = 1,
 }
 
-impl Equality {
-    pub fn number(self) -> u8
-        ensures { result ≡ equality_of self }
-    {
-        self as u8
+impl From<Equality> for u8 {
+    ghost from_gives = { λ e number. number ≡ equality_of e };
+
+    fn from(e: Equality) -> u8 {
+        e as u8
     }
 }
 
@@ -40,10 +40,10 @@ pub enum Divisor {
     Absolute = 1,
 }
 
-impl Divisor {
-    pub fn number(self) -> u8
-        ensures { result ≡ divisor_of self }
-    {
-        self as u8
+impl From<Divisor> for u8 {
+    ghost from_gives = { λ d number. number ≡ divisor_of d };
+
+    fn from(d: Divisor) -> u8 {
+        d as u8
     }
 }
