@@ -96,9 +96,9 @@ impl Writer<'_> {
         requires { Room self.old 9 }
         ensures { Puts self.old self.new (closing_bytes c) 9 }
     {
-        self.half(c.stack);
-        self.half(c.loops);
-        self.half(c.handlers);
+        self.half(c.depths.stack);
+        self.half(c.depths.loops);
+        self.half(c.depths.handlers);
         self.half(c.flags);
         self.byte(u8::from(c.float_loop));
     }

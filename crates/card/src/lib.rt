@@ -13,6 +13,7 @@ use answers::refusals::Refusal;
 use body::put_body;
 use fields::Writer;
 use measure::sums_of;
+use program::Depths;
 
 // How many entries each region holds, and the closing fields; `posts` without slot 0.
 #[derive(Clone, Copy, Drop)]
@@ -27,9 +28,7 @@ pub struct Sections {
     pub members: u16,
     pub stores: u16,
     pub calls: u16,
-    pub stack: u16,
-    pub loops: u16,
-    pub handlers: u16,
+    pub depths: Depths,
     pub flags: u16,
     pub float_loop: bool,
 }
