@@ -17,6 +17,7 @@ ghost use Rattle.card.specs.Image.{
   call_entry,
 };
 
+use crate::Lowered;
 use crate::fields::{Entries, Words, Writer};
 use program::targets;
 use workspace::layout;
@@ -188,6 +189,18 @@ impl Entries for Stores<'_> {
 pub(crate) struct Calls<'a> {
     pub(crate) ws: &'a [u32],
     pub(crate) base: u32,
+}
+
+impl<'a> Lowered<'a> {
+    // The calls, whose arguments stand behind the main code.
+    pub(crate) fn calls(self) -> Calls<'a>
+        ensures { result ≡ record { ws = self.entry.ws; base = self.entry.sections.code } }
+    {
+        Calls {
+            ws: self.ws,
+            base: u32::from(self.sections.code),
+        }
+    }
 }
 
 impl Entries for Calls<'_> {

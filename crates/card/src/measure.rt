@@ -4,8 +4,9 @@
 ghost use Rattle.std.specs.Prelude.{◌≡◌, ◌+◌, ◌*◌, ◌^◌, ◌≤◌, ◌<◌, length};
 ghost use Rattle.card.specs.Written.{cat};
 ghost use Rattle.card.specs.Starts.{sums_of};
+ghost use Rattle.card.specs.Lowered.{of_parts};
 
-use crate::Sections;
+use crate::Lowered;
 use crate::entries::{Calls, Members, Names, Stores};
 use crate::fields::Entries;
 use workspace::layout;
@@ -102,32 +103,31 @@ pub(crate) struct Sums {
     pub(crate) calls: usize,
 }
 
-// From calls to code, one section more at each step; a post stands in slot 0 too.
-pub(crate) fn sums_of(tree: &[u8], ws: &[u32], c: Sections) -> Sums
-    ensures { (result ≡ sums_of tree.now ws.now c) × (result.code ≤ 2 ^ 44) }
-{
-    let starts = Calls {
-        ws,
-        base: u32::from(c.code),
-    };
-    let calls = COUNT + sizes(&starts, c.calls);
-    let stores = COUNT + sizes(&Stores { ws }, c.stores) + calls;
-    let members = COUNT + sizes(&Members { tree, ws }, c.members) + stores;
-    let temps = COUNT + HALF * usize::from(c.temps) + members;
-    let names = COUNT + sizes(&Names { tree, ws }, c.names) + temps;
-    let hashes = COUNT + PAIR * usize::from(c.hashes) + names;
-    let posts = COUNT + PAIR * (usize::from(c.posts) + 1) + hashes;
-    let consts = COUNT + WORD * usize::from(c.consts) + posts;
-    let code = COUNT + INSTRUCTION * (usize::from(c.code) + usize::from(c.finished)) + consts;
-    Sums {
-        code,
-        consts,
-        posts,
-        hashes,
-        names,
-        temps,
-        members,
-        stores,
-        calls,
+impl Lowered<'_> {
+    // From calls to code, one section more at each step; a post stands in slot 0 too.
+    pub(crate) fn sums(self) -> Sums
+        ensures { (result ≡ of_parts sums_of self.entry) × (result.code ≤ 2 ^ 44) }
+    {
+        let (tree, ws, c) = (self.tree, self.ws, self.sections);
+        let calls = COUNT + sizes(&self.calls(), c.calls);
+        let stores = COUNT + sizes(&Stores { ws }, c.stores) + calls;
+        let members = COUNT + sizes(&Members { tree, ws }, c.members) + stores;
+        let temps = COUNT + HALF * usize::from(c.temps) + members;
+        let names = COUNT + sizes(&Names { tree, ws }, c.names) + temps;
+        let hashes = COUNT + PAIR * usize::from(c.hashes) + names;
+        let posts = COUNT + PAIR * (usize::from(c.posts) + 1) + hashes;
+        let consts = COUNT + WORD * usize::from(c.consts) + posts;
+        let code = COUNT + INSTRUCTION * (usize::from(c.code) + usize::from(c.finished)) + consts;
+        Sums {
+            code,
+            consts,
+            posts,
+            hashes,
+            names,
+            temps,
+            members,
+            stores,
+            calls,
+        }
     }
 }
