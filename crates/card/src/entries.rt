@@ -1,7 +1,7 @@
-// The sections' entries: what each kind writes for one index. `as` cuts a word, or takes it to a usize: for neither is there a `From`.
+// The sections' entries: what each kind writes for one index. `as` takes a word to a usize, for which there is no `From`.
 #![tactic(auto, using(crate::proofs::Join::writing))]
 
-ghost use Rattle.std.specs.Prelude.{◌≡◌, ◌+◌, ◌*◌, ◌^◌, ◌≤◌, ◌<◌};
+ghost use Rattle.std.specs.Prelude.{◌≡◌, ◌+◌, ◌*◌, ◌%◌, ◌^◌, ◌≤◌, ◌<◌};
 ghost use Rattle.workspace.specs.Layout.{TEMPS};
 ghost use Rattle.card.specs.Puts.{Room, Puts};
 ghost use Rattle.card.specs.Image.{
@@ -23,18 +23,34 @@ use program::targets;
 use workspace::layout;
 use workspace::words::{plus, word};
 
+// A word's low half, and its low byte.
+pub(crate) fn low_half(w: u32) -> u16
+    ensures { result ≡ w % 65536 }
+{
+    let [_, _, high, low] = w.to_be_bytes();
+    u16::from_be_bytes([high, low])
+}
+
+fn low_byte(w: u32) -> u8
+    ensures { result ≡ w % 256 }
+{
+    let [_, _, _, low] = w.to_be_bytes();
+    low
+}
+
 // Opcode, sub, A and B.
 #[tactic(auto, using(crate::proofs::Join::writing), unfolding(crate::specs::Image::instruction_bytes))]
 fn put_instruction(w: u32, a: u32, base: u32, out: &mut Writer<'_>)
     requires { Room out.old 8 }
     ensures { Puts out.old out.new (instruction_bytes base w a) 8 }
 {
-    let s = targets::shift((w / 16777216) as u8, base);
+    let [opcode, sub, _, _] = w.to_be_bytes();
+    let s = targets::shift(opcode, base);
     let v = plus(a, s);
-    out.byte((w / 16777216) as u8);
-    out.byte((w / 65536 % 256) as u8);
+    out.byte(opcode);
+    out.byte(sub);
     out.word(v);
-    out.half((w % 65536) as u16);
+    out.half(low_half(w));
 }
 
 // The instructions from `from` on, their targets counted from `base`.
@@ -127,7 +143,7 @@ impl Entries for Temps<'_> {
 
     fn put(&self, i: usize, out: &mut Writer<'_>) {
         let w = word(self.ws, layout::TEMPS + i);
-        out.half((w % 65536) as u16);
+        out.half(low_half(w));
     }
 }
 
@@ -171,9 +187,9 @@ impl Entries for Stores<'_> {
         let root = word(ws, k);
         let index = word(ws, k + 1);
         let first = word(ws, k + 2);
-        let count = (word(ws, k + 3) % 65536) as u16;
-        out.byte((root % 256) as u8);
-        out.half((index % 65536) as u16);
+        let count = low_half(word(ws, k + 3));
+        out.byte(low_byte(root));
+        out.half(low_half(index));
         out.half(count);
         let path = Words {
             ws,
@@ -214,10 +230,10 @@ impl Entries for Calls<'_> {
         let k = layout::CALLS + 4 * i;
         let index = word(ws, k);
         let impl_idx = word(ws, k + 1);
-        let count = (word(ws, k + 2) % 65536) as u16;
+        let count = low_half(word(ws, k + 2));
         let first = word(ws, k + 3);
-        out.half((index % 65536) as u16);
-        out.byte((impl_idx % 256) as u8);
+        out.half(low_half(index));
+        out.byte(low_byte(impl_idx));
         out.half(count);
         let starts = Words {
             ws,

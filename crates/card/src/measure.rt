@@ -7,7 +7,7 @@ ghost use Rattle.card.specs.Starts.{sums_of};
 ghost use Rattle.card.specs.Lowered.{of_parts};
 
 use crate::Lowered;
-use crate::entries::{Calls, Members, Names, Stores};
+use crate::entries::{Calls, Members, Names, Stores, low_half};
 use crate::fields::Entries;
 use workspace::layout;
 use workspace::words::word;
@@ -65,7 +65,7 @@ impl Measured for Stores<'_> {
     #[tactic(auto, using(crate::proofs::Lengths::lengths), unfolding(crate::specs::Image::store_bytes))]
     fn size(&self, i: usize) -> usize {
         let k = word(self.ws, layout::STORES + 4 * i + 3);
-        STORE + PAIR * ((k % 65536) as usize)
+        STORE + PAIR * usize::from(low_half(k))
     }
 }
 
@@ -73,7 +73,7 @@ impl Measured for Calls<'_> {
     #[tactic(auto, using(crate::proofs::Lengths::lengths), unfolding(crate::specs::Image::call_bytes))]
     fn size(&self, i: usize) -> usize {
         let k = word(self.ws, layout::CALLS + 4 * i + 2);
-        CALL + WORD * ((k % 65536) as usize)
+        CALL + WORD * usize::from(low_half(k))
     }
 }
 
