@@ -35,7 +35,7 @@ impl Writer<'_> {
         requires { Room self.old (4 + E.most * n) }
         ensures { Puts self.old self.new (be 4 n [] ++ cat (E.bytes_of entries.now) n) (4 + E.most * n) }
     {
-        self.word(u32::from(n));
+        self.put(u32::from(n));
         self.all(entries, usize::from(n));
     }
 
@@ -55,7 +55,7 @@ impl Writer<'_> {
             from: layout::FINISHED,
             base: u32::from(n),
         };
-        self.word(u32::from(n) + u32::from(m));
+        self.put(u32::from(n) + u32::from(m));
         self.all(&main, usize::from(n));
         self.all(&finished, usize::from(m));
     }
@@ -71,9 +71,9 @@ impl Writer<'_> {
             from: layout::POSTS,
             base: 0,
         };
-        self.word(u32::from(n) + 1);
-        self.word(plain.scale);
-        self.word(plain.offset);
+        self.put(u32::from(n) + 1);
+        self.put(plain.scale);
+        self.put(plain.offset);
         self.all(&further, 2 * usize::from(n));
     }
 
@@ -88,7 +88,7 @@ impl Writer<'_> {
             from: layout::HASHES,
             base: 0,
         };
-        self.word(u32::from(n));
+        self.put(u32::from(n));
         self.all(&hashes, 2 * usize::from(n));
     }
 
@@ -97,11 +97,11 @@ impl Writer<'_> {
         requires { Room self.old 9 }
         ensures { Puts self.old self.new (closing_bytes c) 9 }
     {
-        self.half(c.depths.stack);
-        self.half(c.depths.loops);
-        self.half(c.depths.handlers);
-        self.half(c.flags);
-        self.byte(u8::from(c.float_loop));
+        self.put(c.depths.stack);
+        self.put(c.depths.loops);
+        self.put(c.depths.handlers);
+        self.put(c.flags);
+        self.put(u8::from(c.float_loop));
     }
 }
 

@@ -47,10 +47,10 @@ fn put_instruction(w: u32, a: u32, base: u32, out: &mut Writer<'_>)
     let [opcode, sub, _, _] = w.to_be_bytes();
     let s = targets::shift(opcode, base);
     let v = plus(a, s);
-    out.byte(opcode);
-    out.byte(sub);
-    out.word(v);
-    out.half(low_half(w));
+    out.put(opcode);
+    out.put(sub);
+    out.put(v);
+    out.put(low_half(w));
 }
 
 // The instructions from `from` on, their targets counted from `base`.
@@ -82,7 +82,7 @@ fn put_text(tree: &[u8], o: u32, out: &mut Writer<'_>)
 {
     let k = o as usize;
     let n = wire::get_u8(tree, k, 0);
-    out.half(u16::from(n));
+    out.put(u16::from(n));
     out.bytes(tree, k + 1, n);
 }
 
@@ -94,8 +94,8 @@ fn put_dotted(tree: &[u8], o: u32, out: &mut Writer<'_>)
 {
     let k = o as usize;
     let n = wire::get_u8(tree, k, 0);
-    out.half(u16::from(n) + 1);
-    out.byte(b'.');
+    out.put(u16::from(n) + 1);
+    out.put(b'.');
     out.bytes(tree, k + 1, n);
 }
 
@@ -106,8 +106,8 @@ fn put_hash(ws: &[u32], k: usize, out: &mut Writer<'_>)
 {
     let a = word(ws, k);
     let b = word(ws, k + 1);
-    out.word(a);
-    out.word(b);
+    out.put(a);
+    out.put(b);
 }
 
 #[derive(Drop)]
@@ -143,7 +143,7 @@ impl Entries for Temps<'_> {
 
     fn put(&self, i: usize, out: &mut Writer<'_>) {
         let w = word(self.ws, layout::TEMPS + i);
-        out.half(low_half(w));
+        out.put(low_half(w));
     }
 }
 
@@ -188,9 +188,9 @@ impl Entries for Stores<'_> {
         let index = word(ws, k + 1);
         let first = word(ws, k + 2);
         let count = low_half(word(ws, k + 3));
-        out.byte(low_byte(root));
-        out.half(low_half(index));
-        out.half(count);
+        out.put(low_byte(root));
+        out.put(low_half(index));
+        out.put(count);
         let path = Words {
             ws,
             from: layout::PATHS + 2 * (first as usize),
@@ -232,9 +232,9 @@ impl Entries for Calls<'_> {
         let impl_idx = word(ws, k + 1);
         let count = low_half(word(ws, k + 2));
         let first = word(ws, k + 3);
-        out.half(low_half(index));
-        out.byte(low_byte(impl_idx));
-        out.half(count);
+        out.put(low_half(index));
+        out.put(low_byte(impl_idx));
+        out.put(count);
         let starts = Words {
             ws,
             from: layout::ARGUMENTS + first as usize,

@@ -60,8 +60,8 @@ impl Lowered<'_> {
             return n;
         }
         let mut w = Writer { out, at: 0 };
-        w.byte(VERSION);
-        w.word(((n - HEADER) % 4294967296) as u32);
+        w.put(VERSION);
+        w.put(((n - HEADER) % 4294967296) as u32);
         self.body(s, n - CLOSING, &mut w);
         n
     }

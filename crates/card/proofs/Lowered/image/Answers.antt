@@ -10,5 +10,5 @@ returns c =
     let ws = l.ws.now in
     let n = total tree ws l.sections c.sums-s.ensures.0 in
     let size = image_length tree ws l.sections in
-    let laid = headed tree ws l.sections (omega (arith, n, size)) (omega arith) c.byte.ensures.wrote c.word.ensures.wrote c.body.ensures.wrote in
+    let laid = headed tree ws l.sections (omega (arith, n, size)) (omega arith) c.put.ensures.wrote c.put-2.ensures.wrote c.body.ensures.wrote in
     search rules
