@@ -77,7 +77,7 @@ impl Measured for Calls<'_> {
     }
 }
 
-// The bytes of the first `n` entries.
+// The bytes of the first `n` entries. A loop: of `map` and `sum` the check finds neither that it fits nor what it is, which takes an induction over the range.
 fn sizes<E: Measured>(entries: &E, n: u16) -> usize
     requires { E.Entries.most < 2 ^ 20 }
     ensures { (result ≡ length (cat (E.Entries.bytes_of entries.now) n)) × (result ≤ 2 ^ 20 * n) }
