@@ -11,7 +11,7 @@ ghost use Rattle.card.specs.Image.{code_section, posts_section, hashes_section, 
 ghost use Rattle.card.specs.Starts.{sums_of, closing_start, start_from_back};
 ghost use Rattle.card.specs.Lowered.{of_parts};
 
-use crate::entries::{Instructions, Members, Names, Stores, Temps};
+use crate::entries::{Calls, Instructions, Members, Names, Stores, Temps};
 use crate::fields::{Entries, Words, Writer};
 use crate::measure::Sums;
 use crate::{Lowered, Sections};
@@ -114,7 +114,7 @@ impl Lowered<'_> {
         ensures wrote { Wrote w.old.out.now (start_from_back self.entry.tree.now self.entry.ws.now self.entry.sections 0)
             (of_parts body_of self.entry) w.new.out.now (length (of_parts image_of self.entry)) }
     {
-        let (tree, ws, c) = (self.tree, self.ws, self.sections);
+        let (ws, c) = (self.ws, self.sections);
         let consts = Words {
             ws,
             from: layout::CONSTS,
@@ -123,15 +123,15 @@ impl Lowered<'_> {
         w.at = closing;
         w.closing(c);
         w.at = closing - s.calls;
-        w.section(&self.calls(), c.calls);
+        w.section(&Calls(self), c.calls);
         w.at = closing - s.stores;
-        w.section(&Stores { ws }, c.stores);
+        w.section(&Stores(self), c.stores);
         w.at = closing - s.members;
-        w.section(&Members { tree, ws }, c.members);
+        w.section(&Members(self), c.members);
         w.at = closing - s.temps;
-        w.section(&Temps { ws }, c.temps);
+        w.section(&Temps(self), c.temps);
         w.at = closing - s.names;
-        w.section(&Names { tree, ws }, c.names);
+        w.section(&Names(self), c.names);
         w.at = closing - s.hashes;
         w.hashes(ws, c.hashes);
         w.at = closing - s.posts;

@@ -111,78 +111,68 @@ fn put_hash(ws: &[u32], k: usize, out: &mut Writer<'_>)
 }
 
 #[derive(Drop)]
-pub(crate) struct Names<'a> {
-    pub(crate) tree: &'a [u8],
-    pub(crate) ws: &'a [u32],
-}
+pub(crate) struct Names<'a>(pub(crate) Lowered<'a>);
 
 impl Entries for Names<'_> {
-    ghost bytes_of = { λ s. name_entry s.tree.now s.ws.now };
+    ghost bytes_of = { λ s. name_entry s.0.tree.now s.0.ws.now };
 
     ghost most = { 265 };
 
     #[tactic(auto, using(crate::proofs::Join::writing), unfolding(crate::specs::Image::name_bytes))]
     fn put(&self, i: usize, out: &mut Writer<'_>) {
         let k = layout::NAMES + 3 * i;
-        let o = word(self.ws, k + 2);
-        put_hash(self.ws, k, out);
-        put_text(self.tree, o, out);
+        let o = word(self.0.ws, k + 2);
+        put_hash(self.0.ws, k, out);
+        put_text(self.0.tree, o, out);
     }
 }
 
 // A temp: the low half of its word.
 #[derive(Drop)]
-pub(crate) struct Temps<'a> {
-    pub(crate) ws: &'a [u32],
-}
+pub(crate) struct Temps<'a>(pub(crate) Lowered<'a>);
 
 impl Entries for Temps<'_> {
-    ghost bytes_of = { λ s. half_entry s.ws.now TEMPS };
+    ghost bytes_of = { λ s. half_entry s.0.ws.now TEMPS };
 
     ghost most = { 2 };
 
     fn put(&self, i: usize, out: &mut Writer<'_>) {
-        let w = word(self.ws, layout::TEMPS + i);
+        let w = word(self.0.ws, layout::TEMPS + i);
         out.put(low_half(w));
     }
 }
 
 #[derive(Drop)]
-pub(crate) struct Members<'a> {
-    pub(crate) tree: &'a [u8],
-    pub(crate) ws: &'a [u32],
-}
+pub(crate) struct Members<'a>(pub(crate) Lowered<'a>);
 
 impl Entries for Members<'_> {
-    ghost bytes_of = { λ s. member_entry s.tree.now s.ws.now };
+    ghost bytes_of = { λ s. member_entry s.0.tree.now s.0.ws.now };
 
     ghost most = { 524 };
 
     #[tactic(auto, using(crate::proofs::Join::writing), unfolding(crate::specs::Image::member_bytes))]
     fn put(&self, i: usize, out: &mut Writer<'_>) {
         let k = layout::MEMBERS + 6 * i;
-        let o = word(self.ws, k + 4);
-        let p = word(self.ws, k + 5);
-        put_hash(self.ws, k, out);
-        put_dotted(self.tree, o, out);
-        put_dotted(self.tree, p, out);
+        let o = word(self.0.ws, k + 4);
+        let p = word(self.0.ws, k + 5);
+        put_hash(self.0.ws, k, out);
+        put_dotted(self.0.tree, o, out);
+        put_dotted(self.0.tree, p, out);
     }
 }
 
 // A store's root, and the hashes of its path.
 #[derive(Drop)]
-pub(crate) struct Stores<'a> {
-    pub(crate) ws: &'a [u32],
-}
+pub(crate) struct Stores<'a>(pub(crate) Lowered<'a>);
 
 impl Entries for Stores<'_> {
-    ghost bytes_of = { λ s. store_entry s.ws.now };
+    ghost bytes_of = { λ s. store_entry s.0.ws.now };
 
     ghost most = { 524285 };
 
     #[tactic(auto, using(crate::proofs::Join::writing), unfolding(crate::specs::Image::store_bytes))]
     fn put(&self, i: usize, out: &mut Writer<'_>) {
-        let ws = self.ws;
+        let ws = self.0.ws;
         let k = layout::STORES + 4 * i;
         let root = word(ws, k);
         let index = word(ws, k + 1);
@@ -200,33 +190,18 @@ impl Entries for Stores<'_> {
     }
 }
 
-// A call's query, and the starts of its arguments, `base` added to each.
+// A call's query, and the starts of its arguments, which stand behind the main code.
 #[derive(Drop)]
-pub(crate) struct Calls<'a> {
-    pub(crate) ws: &'a [u32],
-    pub(crate) base: u32,
-}
-
-impl<'a> Lowered<'a> {
-    // The calls, whose arguments stand behind the main code.
-    pub(crate) fn calls(self) -> Calls<'a>
-        ensures { result ≡ record { ws = self.entry.ws; base = self.entry.sections.code } }
-    {
-        Calls {
-            ws: self.ws,
-            base: u32::from(self.sections.code),
-        }
-    }
-}
+pub(crate) struct Calls<'a>(pub(crate) Lowered<'a>);
 
 impl Entries for Calls<'_> {
-    ghost bytes_of = { λ s. call_entry s.ws.now s.base };
+    ghost bytes_of = { λ s. call_entry s.0.ws.now s.0.sections.code };
 
     ghost most = { 262145 };
 
     #[tactic(auto, using(crate::proofs::Join::writing), unfolding(crate::specs::Image::call_bytes))]
     fn put(&self, i: usize, out: &mut Writer<'_>) {
-        let ws = self.ws;
+        let ws = self.0.ws;
         let k = layout::CALLS + 4 * i;
         let index = word(ws, k);
         let impl_idx = word(ws, k + 1);
@@ -238,7 +213,7 @@ impl Entries for Calls<'_> {
         let starts = Words {
             ws,
             from: layout::ARGUMENTS + first as usize,
-            base: self.base,
+            base: u32::from(self.0.sections.code),
         };
         out.all(&starts, usize::from(count));
     }

@@ -44,8 +44,8 @@ trait Measured: Entries {
 impl Measured for Names<'_> {
     #[tactic(auto, using(crate::proofs::Lengths::lengths), unfolding(crate::specs::Image::name_bytes, crate::specs::Image::text_bytes))]
     fn size(&self, i: usize) -> usize {
-        let o = word(self.ws, layout::NAMES + 3 * i + 2);
-        let t = wire::get_u8(self.tree, o as usize, 0);
+        let o = word(self.0.ws, layout::NAMES + 3 * i + 2);
+        let t = wire::get_u8(self.0.tree, o as usize, 0);
         NAME + usize::from(t)
     }
 }
@@ -53,10 +53,10 @@ impl Measured for Names<'_> {
 impl Measured for Members<'_> {
     #[tactic(auto, using(crate::proofs::Lengths::lengths), unfolding(crate::specs::Image::member_bytes, crate::specs::Image::dotted_bytes))]
     fn size(&self, i: usize) -> usize {
-        let o = word(self.ws, layout::MEMBERS + 6 * i + 4);
-        let p = word(self.ws, layout::MEMBERS + 6 * i + 5);
-        let t = wire::get_u8(self.tree, o as usize, 0);
-        let u = wire::get_u8(self.tree, p as usize, 0);
+        let o = word(self.0.ws, layout::MEMBERS + 6 * i + 4);
+        let p = word(self.0.ws, layout::MEMBERS + 6 * i + 5);
+        let t = wire::get_u8(self.0.tree, o as usize, 0);
+        let u = wire::get_u8(self.0.tree, p as usize, 0);
         MEMBER + usize::from(t) + usize::from(u)
     }
 }
@@ -64,7 +64,7 @@ impl Measured for Members<'_> {
 impl Measured for Stores<'_> {
     #[tactic(auto, using(crate::proofs::Lengths::lengths), unfolding(crate::specs::Image::store_bytes))]
     fn size(&self, i: usize) -> usize {
-        let k = word(self.ws, layout::STORES + 4 * i + 3);
+        let k = word(self.0.ws, layout::STORES + 4 * i + 3);
         STORE + PAIR * usize::from(low_half(k))
     }
 }
@@ -72,7 +72,7 @@ impl Measured for Stores<'_> {
 impl Measured for Calls<'_> {
     #[tactic(auto, using(crate::proofs::Lengths::lengths), unfolding(crate::specs::Image::call_bytes))]
     fn size(&self, i: usize) -> usize {
-        let k = word(self.ws, layout::CALLS + 4 * i + 2);
+        let k = word(self.0.ws, layout::CALLS + 4 * i + 2);
         CALL + WORD * usize::from(low_half(k))
     }
 }
@@ -108,12 +108,12 @@ impl Lowered<'_> {
     pub(crate) fn sums(self) -> Sums
         ensures { (result ≡ of_parts sums_of self.entry) × (result.code ≤ 2 ^ 44) }
     {
-        let (tree, ws, c) = (self.tree, self.ws, self.sections);
-        let calls = COUNT + sizes(&self.calls(), c.calls);
-        let stores = COUNT + sizes(&Stores { ws }, c.stores) + calls;
-        let members = COUNT + sizes(&Members { tree, ws }, c.members) + stores;
+        let c = self.sections;
+        let calls = COUNT + sizes(&Calls(self), c.calls);
+        let stores = COUNT + sizes(&Stores(self), c.stores) + calls;
+        let members = COUNT + sizes(&Members(self), c.members) + stores;
         let temps = COUNT + HALF * usize::from(c.temps) + members;
-        let names = COUNT + sizes(&Names { tree, ws }, c.names) + temps;
+        let names = COUNT + sizes(&Names(self), c.names) + temps;
         let hashes = COUNT + PAIR * usize::from(c.hashes) + names;
         let posts = COUNT + PAIR * (usize::from(c.posts) + 1) + hashes;
         let consts = COUNT + WORD * usize::from(c.consts) + posts;
