@@ -100,8 +100,8 @@ pub record Holds (tree ws : List ℕ) (c : Sections) (P : Program) : Type 0 wher
   pub stores : Each (record { root = root_other; path = [] }) (λ k s. StoreIs ws (STORES + 4 * k) s) P.stores
   pub calls_count : length P.calls ≡ c.calls
   pub calls : Each (record { index = 0; impl = 0; starts = [] }) (λ k q. CallIs ws c.code (CALLS + 4 * k) q) P.calls
-  pub stack : c.stack ≡ P.depths.operands
-  pub loops : c.loops ≡ P.depths.loops
-  pub handlers : c.handlers ≡ P.depths.handlers
+  pub stack : c.depths.stack ≡ P.depths.operands
+  pub loops : c.depths.loops ≡ P.depths.loops
+  pub handlers : c.depths.handlers ≡ P.depths.handlers
   pub flags : c.flags ≡ P.flags
   pub float_loop : c.float_loop ≡ P.float_loop

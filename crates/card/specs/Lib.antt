@@ -3,3 +3,4 @@ pub mod Puts
 pub mod Image
 pub mod Starts
 pub mod Holds
+pub mod Lowered

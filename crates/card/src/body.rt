@@ -7,11 +7,12 @@ ghost use Rattle.card.specs.Written.{Wrote, cat};
 ghost use Rattle.card.specs.Puts.{Room, Puts};
 ghost use Rattle.card.specs.Image.{code_section, posts_section, hashes_section, closing_bytes, body_of, image_of};
 ghost use Rattle.card.specs.Starts.{sums_of, closing_start, start_from_back};
+ghost use Rattle.card.specs.Lowered.{of_parts};
 
-use crate::Sections;
 use crate::entries::{Calls, Instructions, Members, Names, Stores, Temps};
 use crate::fields::{Entries, Words, Writer};
 use crate::measure::Sums;
+use crate::{Lowered, Sections};
 use numeric::{PostBits, PostOp};
 use workspace::layout;
 
@@ -21,7 +22,7 @@ impl Writer<'_> {
         requires { Room self.old (4 + E.most * n) }
         ensures { Puts self.old self.new (be 4 n [] ++ cat (E.bytes_of entries.now) n) (4 + E.most * n) }
     {
-        self.word(u32::from(n));
+        self.put(u32::from(n));
         self.all(entries, usize::from(n));
     }
 
@@ -41,7 +42,7 @@ impl Writer<'_> {
             from: layout::FINISHED,
             base: u32::from(n),
         };
-        self.word(u32::from(n) + u32::from(m));
+        self.put(u32::from(n) + u32::from(m));
         self.all(&main, usize::from(n));
         self.all(&finished, usize::from(m));
     }
@@ -58,9 +59,9 @@ impl Writer<'_> {
             from: layout::POSTS,
             base: 0,
         };
-        self.word(u32::from(n) + 1);
-        self.word(plain.scale);
-        self.word(plain.offset);
+        self.put(u32::from(n) + 1);
+        self.put(plain.scale);
+        self.put(plain.offset);
         self.all(&further, 2 * usize::from(n));
     }
 
@@ -75,7 +76,7 @@ impl Writer<'_> {
             from: layout::HASHES,
             base: 0,
         };
-        self.word(u32::from(n));
+        self.put(u32::from(n));
         self.all(&hashes, 2 * usize::from(n));
     }
 
@@ -84,56 +85,48 @@ impl Writer<'_> {
         requires { Room self.old 9 }
         ensures { Puts self.old self.new (closing_bytes c) 9 }
     {
-        self.half(c.stack);
-        self.half(c.loops);
-        self.half(c.handlers);
-        self.half(c.flags);
-        self.byte(u8::from(c.float_loop));
+        self.put(c.depths.stack);
+        self.put(c.depths.loops);
+        self.put(c.depths.handlers);
+        self.put(c.flags);
+        self.put(u8::from(c.float_loop));
     }
 }
 
-// All that stands behind the length, from the back: each section begins at the closing fields' place less the running sum that ends with it.
-#[tactic(auto, using(crate::proofs::Starts::all_within))]
-pub(crate) fn put_body(
-    tree: &[u8],
-    ws: &[u32],
-    c: Sections,
-    s: Sums,
-    closing: usize,
-    w: &mut Writer<'_>,
-)
-    requires { (s ≡ sums_of tree.now ws.now c) × (closing ≡ closing_start tree.now ws.now c) × (closing < 2 ^ 54) }
-    ensures same { w.new.out.ghost_name ≡ w.old.out.ghost_name }
-    ensures wrote { Wrote w.old.out.now (start_from_back tree.now ws.now c 0)
-        (body_of tree.now ws.now c) w.new.out.now (length (image_of tree.now ws.now c)) }
-{
-    let starts = Calls {
-        ws,
-        base: u32::from(c.code),
-    };
-    let consts = Words {
-        ws,
-        from: layout::CONSTS,
-        base: 0,
-    };
-    w.at = closing;
-    w.closing(c);
-    w.at = closing - s.calls;
-    w.section(&starts, c.calls);
-    w.at = closing - s.stores;
-    w.section(&Stores { ws }, c.stores);
-    w.at = closing - s.members;
-    w.section(&Members { tree, ws }, c.members);
-    w.at = closing - s.temps;
-    w.section(&Temps { ws }, c.temps);
-    w.at = closing - s.names;
-    w.section(&Names { tree, ws }, c.names);
-    w.at = closing - s.hashes;
-    w.hashes(ws, c.hashes);
-    w.at = closing - s.posts;
-    w.posts(ws, c.posts);
-    w.at = closing - s.consts;
-    w.section(&consts, c.consts);
-    w.at = closing - s.code;
-    w.code(ws, c.code, c.finished);
+impl Lowered<'_> {
+    // All that stands behind the length, from the back: each section begins at the closing fields' place less the running sum that ends with it.
+    #[tactic(auto, using(crate::proofs::Starts::all_within))]
+    pub(crate) fn body(self, s: Sums, closing: usize, w: &mut Writer<'_>)
+        requires { (s ≡ of_parts sums_of self) × (closing ≡ of_parts closing_start self) × (closing < 2 ^ 54) }
+        ensures same { w.new.out.ghost_name ≡ w.old.out.ghost_name }
+        ensures wrote { Wrote w.old.out.now (start_from_back self.entry.tree.now self.entry.ws.now self.entry.sections 0)
+            (of_parts body_of self.entry) w.new.out.now (length (of_parts image_of self.entry)) }
+    {
+        let (ws, c) = (self.ws, self.sections);
+        let consts = Words {
+            ws,
+            from: layout::CONSTS,
+            base: 0,
+        };
+        w.at = closing;
+        w.closing(c);
+        w.at = closing - s.calls;
+        w.section(&Calls(self), c.calls);
+        w.at = closing - s.stores;
+        w.section(&Stores(self), c.stores);
+        w.at = closing - s.members;
+        w.section(&Members(self), c.members);
+        w.at = closing - s.temps;
+        w.section(&Temps(self), c.temps);
+        w.at = closing - s.names;
+        w.section(&Names(self), c.names);
+        w.at = closing - s.hashes;
+        w.hashes(ws, c.hashes);
+        w.at = closing - s.posts;
+        w.posts(ws, c.posts);
+        w.at = closing - s.consts;
+        w.section(&consts, c.consts);
+        w.at = closing - s.code;
+        w.code(ws, c.code, c.finished);
+    }
 }

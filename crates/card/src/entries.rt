@@ -1,7 +1,7 @@
-// The sections' entries: what each kind writes for one index. `as` cuts a word, or takes it to a usize: for neither is there a `From`.
+// The sections' entries: what each kind writes for one index. `as` takes a word to a usize, for which there is no `From`.
 #![tactic(auto, using(crate::proofs::Join::writing))]
 
-ghost use Rattle.std.specs.Prelude.{◌≡◌, ◌+◌, ◌*◌, ◌^◌, ◌≤◌, ◌<◌};
+ghost use Rattle.std.specs.Prelude.{◌≡◌, ◌+◌, ◌*◌, ◌%◌, ◌^◌, ◌≤◌, ◌<◌};
 ghost use Rattle.workspace.specs.Layout.{TEMPS};
 ghost use Rattle.card.specs.Puts.{Room, Puts};
 ghost use Rattle.card.specs.Image.{
@@ -17,10 +17,26 @@ ghost use Rattle.card.specs.Image.{
   call_entry,
 };
 
+use crate::Lowered;
 use crate::fields::{Entries, Words, Writer};
 use program::targets;
 use workspace::layout;
 use workspace::words::{plus, word};
+
+// A word's low half, and its low byte.
+pub(crate) fn low_half(w: u32) -> u16
+    ensures { result ≡ w % 65536 }
+{
+    let [_, _, high, low] = w.to_be_bytes();
+    u16::from_be_bytes([high, low])
+}
+
+fn low_byte(w: u32) -> u8
+    ensures { result ≡ w % 256 }
+{
+    let [_, _, _, low] = w.to_be_bytes();
+    low
+}
 
 // Opcode, sub, A and B.
 #[tactic(auto, using(crate::proofs::Join::writing), unfolding(crate::specs::Image::instruction_bytes))]
@@ -28,12 +44,13 @@ fn put_instruction(w: u32, a: u32, base: u32, out: &mut Writer<'_>)
     requires { Room out.old 8 }
     ensures { Puts out.old out.new (instruction_bytes base w a) 8 }
 {
-    let s = targets::shift((w / 16777216) as u8, base);
+    let [opcode, sub, _, _] = w.to_be_bytes();
+    let s = targets::shift(opcode, base);
     let v = plus(a, s);
-    out.byte((w / 16777216) as u8);
-    out.byte((w / 65536 % 256) as u8);
-    out.word(v);
-    out.half((w % 65536) as u16);
+    out.put(opcode);
+    out.put(sub);
+    out.put(v);
+    out.put(low_half(w));
 }
 
 // The instructions from `from` on, their targets counted from `base`.
@@ -65,7 +82,7 @@ fn put_text(tree: &[u8], o: u32, out: &mut Writer<'_>)
 {
     let k = o as usize;
     let n = wire::get_u8(tree, k, 0);
-    out.half(u16::from(n));
+    out.put(u16::from(n));
     out.bytes(tree, k + 1, n);
 }
 
@@ -77,8 +94,8 @@ fn put_dotted(tree: &[u8], o: u32, out: &mut Writer<'_>)
 {
     let k = o as usize;
     let n = wire::get_u8(tree, k, 0);
-    out.half(u16::from(n) + 1);
-    out.byte(b'.');
+    out.put(u16::from(n) + 1);
+    out.put(b'.');
     out.bytes(tree, k + 1, n);
 }
 
@@ -89,91 +106,81 @@ fn put_hash(ws: &[u32], k: usize, out: &mut Writer<'_>)
 {
     let a = word(ws, k);
     let b = word(ws, k + 1);
-    out.word(a);
-    out.word(b);
+    out.put(a);
+    out.put(b);
 }
 
 #[derive(Drop)]
-pub(crate) struct Names<'a> {
-    pub(crate) tree: &'a [u8],
-    pub(crate) ws: &'a [u32],
-}
+pub(crate) struct Names<'a>(pub(crate) Lowered<'a>);
 
 impl Entries for Names<'_> {
-    ghost bytes_of = { λ s. name_entry s.tree.now s.ws.now };
+    ghost bytes_of = { λ s. name_entry s.0.tree.now s.0.ws.now };
 
     ghost most = { 265 };
 
     #[tactic(auto, using(crate::proofs::Join::writing), unfolding(crate::specs::Image::name_bytes))]
     fn put(&self, i: usize, out: &mut Writer<'_>) {
         let k = layout::NAMES + 3 * i;
-        let o = word(self.ws, k + 2);
-        put_hash(self.ws, k, out);
-        put_text(self.tree, o, out);
+        let o = word(self.0.ws, k + 2);
+        put_hash(self.0.ws, k, out);
+        put_text(self.0.tree, o, out);
     }
 }
 
 // A temp: the low half of its word.
 #[derive(Drop)]
-pub(crate) struct Temps<'a> {
-    pub(crate) ws: &'a [u32],
-}
+pub(crate) struct Temps<'a>(pub(crate) Lowered<'a>);
 
 impl Entries for Temps<'_> {
-    ghost bytes_of = { λ s. half_entry s.ws.now TEMPS };
+    ghost bytes_of = { λ s. half_entry s.0.ws.now TEMPS };
 
     ghost most = { 2 };
 
     fn put(&self, i: usize, out: &mut Writer<'_>) {
-        let w = word(self.ws, layout::TEMPS + i);
-        out.half((w % 65536) as u16);
+        let w = word(self.0.ws, layout::TEMPS + i);
+        out.put(low_half(w));
     }
 }
 
 #[derive(Drop)]
-pub(crate) struct Members<'a> {
-    pub(crate) tree: &'a [u8],
-    pub(crate) ws: &'a [u32],
-}
+pub(crate) struct Members<'a>(pub(crate) Lowered<'a>);
 
 impl Entries for Members<'_> {
-    ghost bytes_of = { λ s. member_entry s.tree.now s.ws.now };
+    ghost bytes_of = { λ s. member_entry s.0.tree.now s.0.ws.now };
 
     ghost most = { 524 };
 
     #[tactic(auto, using(crate::proofs::Join::writing), unfolding(crate::specs::Image::member_bytes))]
     fn put(&self, i: usize, out: &mut Writer<'_>) {
         let k = layout::MEMBERS + 6 * i;
-        let o = word(self.ws, k + 4);
-        let p = word(self.ws, k + 5);
-        put_hash(self.ws, k, out);
-        put_dotted(self.tree, o, out);
-        put_dotted(self.tree, p, out);
+        let o = word(self.0.ws, k + 4);
+        let p = word(self.0.ws, k + 5);
+        put_hash(self.0.ws, k, out);
+        put_dotted(self.0.tree, o, out);
+        put_dotted(self.0.tree, p, out);
     }
 }
 
 // A store's root, and the hashes of its path.
 #[derive(Drop)]
-pub(crate) struct Stores<'a> {
-    pub(crate) ws: &'a [u32],
-}
+pub(crate) struct Stores<'a>(pub(crate) Lowered<'a>);
 
 impl Entries for Stores<'_> {
-    ghost bytes_of = { λ s. store_entry s.ws.now };
+    ghost bytes_of = { λ s. store_entry s.0.ws.now };
 
     ghost most = { 524285 };
 
     #[tactic(auto, using(crate::proofs::Join::writing), unfolding(crate::specs::Image::store_bytes))]
     fn put(&self, i: usize, out: &mut Writer<'_>) {
-        let ws = self.ws;
+        let ws = self.0.ws;
         let k = layout::STORES + 4 * i;
         let root = word(ws, k);
         let index = word(ws, k + 1);
         let first = word(ws, k + 2);
-        let count = (word(ws, k + 3) % 65536) as u16;
-        out.byte((root % 256) as u8);
-        out.half((index % 65536) as u16);
-        out.half(count);
+        let count = low_half(word(ws, k + 3));
+        out.put(low_byte(root));
+        out.put(low_half(index));
+        out.put(count);
         let path = Words {
             ws,
             from: layout::PATHS + 2 * (first as usize),
@@ -183,33 +190,30 @@ impl Entries for Stores<'_> {
     }
 }
 
-// A call's query, and the starts of its arguments, `base` added to each.
+// A call's query, and the starts of its arguments, which stand behind the main code.
 #[derive(Drop)]
-pub(crate) struct Calls<'a> {
-    pub(crate) ws: &'a [u32],
-    pub(crate) base: u32,
-}
+pub(crate) struct Calls<'a>(pub(crate) Lowered<'a>);
 
 impl Entries for Calls<'_> {
-    ghost bytes_of = { λ s. call_entry s.ws.now s.base };
+    ghost bytes_of = { λ s. call_entry s.0.ws.now s.0.sections.code };
 
     ghost most = { 262145 };
 
     #[tactic(auto, using(crate::proofs::Join::writing), unfolding(crate::specs::Image::call_bytes))]
     fn put(&self, i: usize, out: &mut Writer<'_>) {
-        let ws = self.ws;
+        let ws = self.0.ws;
         let k = layout::CALLS + 4 * i;
         let index = word(ws, k);
         let impl_idx = word(ws, k + 1);
-        let count = (word(ws, k + 2) % 65536) as u16;
+        let count = low_half(word(ws, k + 2));
         let first = word(ws, k + 3);
-        out.half((index % 65536) as u16);
-        out.byte((impl_idx % 256) as u8);
-        out.half(count);
+        out.put(low_half(index));
+        out.put(low_byte(impl_idx));
+        out.put(count);
         let starts = Words {
             ws,
             from: layout::ARGUMENTS + first as usize,
-            base: self.base,
+            base: u32::from(self.0.sections.code),
         };
         out.all(&starts, usize::from(count));
     }

@@ -7,6 +7,7 @@ ghost use Rattle.card.specs.Written.{Wrote, cat};
 ghost use Rattle.card.specs.Puts.{Room, Puts};
 ghost use Rattle.card.specs.Image.{word_entry, byte_entry};
 
+use endian::Field;
 use workspace::words::{plus, word};
 
 // The output, and the place of the next byte. What lies past the end of the output is not written. How much room a call asks for differs from call to
@@ -18,28 +19,13 @@ pub(crate) struct Writer<'a> {
 }
 
 impl Writer<'_> {
-    pub(crate) fn byte(&mut self, n: u8)
-        requires { Room self.old 1 }
-        ensures { Puts self.old self.new (be 1 n []) 1 }
+    // A number of N bytes, which are as many as its type has.
+    pub(crate) fn put<const N: usize, F: Field<N>>(&mut self, n: F)
+        requires { Room self.old N }
+        ensures { Puts self.old self.new (be N (F.number n) []) N }
     {
-        endian::put_u8(self.out, self.at, n);
-        self.at += 1;
-    }
-
-    pub(crate) fn half(&mut self, n: u16)
-        requires { Room self.old 2 }
-        ensures { Puts self.old self.new (be 2 n []) 2 }
-    {
-        endian::put_u16(self.out, self.at, n);
-        self.at += 2;
-    }
-
-    pub(crate) fn word(&mut self, n: u32)
-        requires { Room self.old 4 }
-        ensures { Puts self.old self.new (be 4 n []) 4 }
-    {
-        endian::put_u32(self.out, self.at, n);
-        self.at += 4;
+        n.put(self.out, self.at);
+        self.at += N;
     }
 
     // The first `n` entries, one behind the other: by a writer of its own, whose place the compiler keeps in a register.
@@ -102,7 +88,7 @@ impl Entries for Words<'_> {
     fn put(&self, i: usize, out: &mut Writer<'_>) {
         let w = word(self.ws, self.from + i);
         let v = plus(w, self.base);
-        out.word(v);
+        out.put(v);
     }
 }
 
@@ -121,6 +107,6 @@ impl Entries for Bytes<'_> {
     fn put(&self, i: usize, out: &mut Writer<'_>) {
         // `as`, since a usize has no `From` into a u32.
         let b = wire::get_u8(self.tree, self.from, i as u32);
-        out.byte(b);
+        out.put(b);
     }
 }

@@ -8,11 +8,11 @@ mod measure;
 
 ghost use Rattle.std.specs.Prelude.{◌≡◌, length};
 ghost use Rattle.card.specs.Image.{image_of, laid, answer_of};
+ghost use Rattle.card.specs.Lowered.{of_parts};
 
 use answers::refusals::Refusal;
-use body::put_body;
 use fields::Writer;
-use measure::sums_of;
+use program::Depths;
 
 // How many entries each region holds, and the closing fields; `posts` without slot 0.
 #[derive(Clone, Copy, Drop)]
@@ -27,11 +27,17 @@ pub struct Sections {
     pub members: u16,
     pub stores: u16,
     pub calls: u16,
-    pub stack: u16,
-    pub loops: u16,
-    pub handlers: u16,
+    pub depths: Depths,
     pub flags: u16,
     pub float_loop: bool,
+}
+
+// What is written: the tree image, for its texts, the lent workspace, and how much of it.
+#[derive(Clone, Copy, Drop)]
+pub(crate) struct Lowered<'a> {
+    pub(crate) tree: &'a [u8],
+    pub(crate) ws: &'a [u32],
+    pub(crate) sections: Sections,
 }
 
 // The image's first byte, the bytes up to the first section, and those of the closing fields.
@@ -41,23 +47,24 @@ const HEADER: usize = 5;
 
 const CLOSING: usize = 9;
 
-// The image, where it has its place in `out`; its length. `as`, since a usize has no `From` into a u32.
-#[tactic(auto, using(crate::proofs::Whole::left, crate::proofs::Starts::total, crate::proofs::Starts::closing_is, crate::proofs::Whole::image_length,))]
-fn write_image(tree: &[u8], ws: &[u32], c: Sections, out: &mut [u8]) -> usize
-    ensures { (out.new ≡ laid (image_of tree.now ws.now c) out.old)
-        × (result ≡ length (image_of tree.now ws.now c)) }
-{
-    let s = sums_of(tree, ws, c);
-    let n = HEADER + s.code + CLOSING;
-    let long = n > out.len();
-    if long {
-        return n;
+impl Lowered<'_> {
+    // The image, where it has its place in `out`; its length. `as`, since a usize has no `From` into a u32.
+    #[tactic(auto, using(crate::proofs::Whole::left, crate::proofs::Starts::total, crate::proofs::Starts::closing_is, crate::proofs::Whole::image_length,))]
+    fn image(self, out: &mut [u8]) -> usize
+        ensures { (out.new ≡ laid (of_parts image_of self.entry) out.old) × (result ≡ length (of_parts image_of self.entry)) }
+    {
+        let s = self.sums();
+        let n = HEADER + s.code + CLOSING;
+        let long = n > out.len();
+        if long {
+            return n;
+        }
+        let mut w = Writer { out, at: 0 };
+        w.put(VERSION);
+        w.put(((n - HEADER) % 4294967296) as u32);
+        self.body(s, n - CLOSING, &mut w);
+        n
     }
-    let mut w = Writer { out, at: 0 };
-    w.byte(VERSION);
-    w.word(((n - HEADER) % 4294967296) as u32);
-    put_body(tree, ws, c, s, n - CLOSING, &mut w);
-    n
 }
 
 // The same; its length, or the refusal where the image has no place.
@@ -67,7 +74,12 @@ pub fn finish(tree: &[u8], ws: &[u32], c: Sections, out: &mut [u8]) -> Result<us
         × (out.new ≡ laid (image_of tree.now ws.now c) out.old) }
 {
     let room = out.len();
-    let n = write_image(tree, ws, c, out);
+    let lowered = Lowered {
+        tree,
+        ws,
+        sections: c,
+    };
+    let n = lowered.image(out);
     let long = n > room;
     if long {
         return Err(Refusal::SmallOutput);

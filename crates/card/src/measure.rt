@@ -4,9 +4,10 @@
 ghost use Rattle.std.specs.Prelude.{◌≡◌, ◌+◌, ◌*◌, ◌^◌, ◌≤◌, ◌<◌, length};
 ghost use Rattle.card.specs.Written.{cat};
 ghost use Rattle.card.specs.Starts.{sums_of};
+ghost use Rattle.card.specs.Lowered.{of_parts};
 
-use crate::Sections;
-use crate::entries::{Calls, Members, Names, Stores};
+use crate::Lowered;
+use crate::entries::{Calls, Members, Names, Stores, low_half};
 use crate::fields::Entries;
 use workspace::layout;
 use workspace::words::word;
@@ -43,8 +44,8 @@ trait Measured: Entries {
 impl Measured for Names<'_> {
     #[tactic(auto, using(crate::proofs::Lengths::lengths), unfolding(crate::specs::Image::name_bytes, crate::specs::Image::text_bytes))]
     fn size(&self, i: usize) -> usize {
-        let o = word(self.ws, layout::NAMES + 3 * i + 2);
-        let t = wire::get_u8(self.tree, o as usize, 0);
+        let o = word(self.0.ws, layout::NAMES + 3 * i + 2);
+        let t = wire::get_u8(self.0.tree, o as usize, 0);
         NAME + usize::from(t)
     }
 }
@@ -52,10 +53,10 @@ impl Measured for Names<'_> {
 impl Measured for Members<'_> {
     #[tactic(auto, using(crate::proofs::Lengths::lengths), unfolding(crate::specs::Image::member_bytes, crate::specs::Image::dotted_bytes))]
     fn size(&self, i: usize) -> usize {
-        let o = word(self.ws, layout::MEMBERS + 6 * i + 4);
-        let p = word(self.ws, layout::MEMBERS + 6 * i + 5);
-        let t = wire::get_u8(self.tree, o as usize, 0);
-        let u = wire::get_u8(self.tree, p as usize, 0);
+        let o = word(self.0.ws, layout::MEMBERS + 6 * i + 4);
+        let p = word(self.0.ws, layout::MEMBERS + 6 * i + 5);
+        let t = wire::get_u8(self.0.tree, o as usize, 0);
+        let u = wire::get_u8(self.0.tree, p as usize, 0);
         MEMBER + usize::from(t) + usize::from(u)
     }
 }
@@ -63,20 +64,20 @@ impl Measured for Members<'_> {
 impl Measured for Stores<'_> {
     #[tactic(auto, using(crate::proofs::Lengths::lengths), unfolding(crate::specs::Image::store_bytes))]
     fn size(&self, i: usize) -> usize {
-        let k = word(self.ws, layout::STORES + 4 * i + 3);
-        STORE + PAIR * ((k % 65536) as usize)
+        let k = word(self.0.ws, layout::STORES + 4 * i + 3);
+        STORE + PAIR * usize::from(low_half(k))
     }
 }
 
 impl Measured for Calls<'_> {
     #[tactic(auto, using(crate::proofs::Lengths::lengths), unfolding(crate::specs::Image::call_bytes))]
     fn size(&self, i: usize) -> usize {
-        let k = word(self.ws, layout::CALLS + 4 * i + 2);
-        CALL + WORD * ((k % 65536) as usize)
+        let k = word(self.0.ws, layout::CALLS + 4 * i + 2);
+        CALL + WORD * usize::from(low_half(k))
     }
 }
 
-// The bytes of the first `n` entries.
+// The bytes of the first `n` entries. A loop: of `map` and `sum` the check finds neither that it fits nor what it is, which takes an induction over the range.
 fn sizes<E: Measured>(entries: &E, n: u16) -> usize
     requires { E.Entries.most < 2 ^ 20 }
     ensures { (result ≡ length (cat (E.Entries.bytes_of entries.now) n)) × (result ≤ 2 ^ 20 * n) }
@@ -102,32 +103,31 @@ pub(crate) struct Sums {
     pub(crate) calls: usize,
 }
 
-// From calls to code, one section more at each step; a post stands in slot 0 too.
-pub(crate) fn sums_of(tree: &[u8], ws: &[u32], c: Sections) -> Sums
-    ensures { (result ≡ sums_of tree.now ws.now c) × (result.code ≤ 2 ^ 44) }
-{
-    let starts = Calls {
-        ws,
-        base: u32::from(c.code),
-    };
-    let calls = COUNT + sizes(&starts, c.calls);
-    let stores = COUNT + sizes(&Stores { ws }, c.stores) + calls;
-    let members = COUNT + sizes(&Members { tree, ws }, c.members) + stores;
-    let temps = COUNT + HALF * usize::from(c.temps) + members;
-    let names = COUNT + sizes(&Names { tree, ws }, c.names) + temps;
-    let hashes = COUNT + PAIR * usize::from(c.hashes) + names;
-    let posts = COUNT + PAIR * (usize::from(c.posts) + 1) + hashes;
-    let consts = COUNT + WORD * usize::from(c.consts) + posts;
-    let code = COUNT + INSTRUCTION * (usize::from(c.code) + usize::from(c.finished)) + consts;
-    Sums {
-        code,
-        consts,
-        posts,
-        hashes,
-        names,
-        temps,
-        members,
-        stores,
-        calls,
+impl Lowered<'_> {
+    // From calls to code, one section more at each step; a post stands in slot 0 too.
+    pub(crate) fn sums(self) -> Sums
+        ensures { (result ≡ of_parts sums_of self.entry) × (result.code ≤ 2 ^ 44) }
+    {
+        let c = self.sections;
+        let calls = COUNT + sizes(&Calls(self), c.calls);
+        let stores = COUNT + sizes(&Stores(self), c.stores) + calls;
+        let members = COUNT + sizes(&Members(self), c.members) + stores;
+        let temps = COUNT + HALF * usize::from(c.temps) + members;
+        let names = COUNT + sizes(&Names(self), c.names) + temps;
+        let hashes = COUNT + PAIR * usize::from(c.hashes) + names;
+        let posts = COUNT + PAIR * (usize::from(c.posts) + 1) + hashes;
+        let consts = COUNT + WORD * usize::from(c.consts) + posts;
+        let code = COUNT + INSTRUCTION * (usize::from(c.code) + usize::from(c.finished)) + consts;
+        Sums {
+            code,
+            consts,
+            posts,
+            hashes,
+            names,
+            temps,
+            members,
+            stores,
+            calls,
+        }
     }
 }

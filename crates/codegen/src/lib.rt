@@ -97,9 +97,7 @@ fn sections(s: State<Refusal>) -> Sections
         members: s.members,
         stores: s.stores,
         calls: s.calls,
-        stack: most.stack,
-        loops: most.loops,
-        handlers: most.handlers,
+        depths: most,
         flags: final_flags(s.flags, fits),
         float_loop: s.float_loop && fits,
     }

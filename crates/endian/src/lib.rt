@@ -1,17 +1,51 @@
 // Big-endian numbers written into bytes. Past the end nothing is written. Output and place come from the caller, who has them as one value (card's `Writer`).
 #![tactic(auto)]
 
-ghost use Rattle.std.specs.Prelude.{◌≡◌, [], ◌/◌, ◌%◌, ◌^◌, ◌<◌, ◌≤◌, length};
+ghost use Rattle.std.specs.Prelude.{◌≡◌, ℕ, [], ◌/◌, ◌%◌, ◌^◌, ◌<◌, ◌≤◌, length};
 ghost use Rattle.std.proofs.lemmas.List.Edits.{sets};
 ghost use Rattle.wire.specs.Bytes.{be};
 
-// The byte at `at`, if there is such a place. A test and a store: of a slice's `get_mut` the library says how long the slice stays, and no element.
-#[tactic(auto, using(wire::proofs::Numbers::be_one, wire::proofs::Stores::sets_out))]
-pub fn put_u8(out: &mut [u8], at: usize, n: u8)
-    ensures { out.new ≡ sets out.old at (be 1 n []) }
-{
-    if at < out.len() {
-        out[at] = n;
+// A number of N bytes.
+pub trait Field<const N: usize>: Drop {
+    ghost number: { Self → ℕ };
+
+    // Its bytes from `at` on, the highest first, each if it has a place.
+    fn put(self, out: &mut [u8], at: usize)
+        ensures { out.new ≡ sets out.old at (be N (number self) []) };
+}
+
+impl Field<1> for u8 {
+    ghost number = { λ n. n };
+
+    // A test and a store: of a slice's `get_mut` the library says how long the slice stays, and no element.
+    #[tactic(auto, using(wire::proofs::Numbers::be_one, wire::proofs::Stores::sets_out))]
+    fn put(self, out: &mut [u8], at: usize) {
+        if at < out.len() {
+            out[at] = self;
+        }
+    }
+}
+
+impl Field<2> for u16 {
+    ghost number = { λ n. n };
+
+    #[tactic(auto, using(wire::proofs::Shifts::be_shifts))]
+    fn put(self, out: &mut [u8], at: usize) {
+        let w = u32::from(self);
+        put_bytes(out, at, [byte(w, 8), byte(w, 0)]);
+    }
+}
+
+impl Field<4> for u32 {
+    ghost number = { λ n. n };
+
+    #[tactic(auto, using(wire::proofs::Shifts::be_shifts))]
+    fn put(self, out: &mut [u8], at: usize) {
+        put_bytes(
+            out,
+            at,
+            [byte(self, 24), byte(self, 16), byte(self, 8), byte(self, 0)],
+        );
     }
 }
 
@@ -22,7 +56,7 @@ fn put_each<const N: usize>(out: &mut [u8], at: usize, bytes: [u8; N])
     ensures { out.new ≡ sets out.old at bytes.entry }
 {
     for i in 0..N {
-        put_u8(out, at + i, bytes[i]);
+        bytes[i].put(out, at + i);
     }
 }
 
@@ -46,21 +80,4 @@ fn byte(n: u32, shift: u32) -> u8
     ensures { result ≡ n / 2 ^ shift % 256 }
 {
     ((n >> shift) & 255) as u8
-}
-
-// Two bytes from `at` on, the high one first.
-#[tactic(auto, using(wire::proofs::Shifts::be_shifts))]
-pub fn put_u16(out: &mut [u8], at: usize, n: u16)
-    ensures { out.new ≡ sets out.old at (be 2 n []) }
-{
-    let w = u32::from(n);
-    put_bytes(out, at, [byte(w, 8), byte(w, 0)]);
-}
-
-// Four bytes from `at` on, the highest first.
-#[tactic(auto, using(wire::proofs::Shifts::be_shifts))]
-pub fn put_u32(out: &mut [u8], at: usize, n: u32)
-    ensures { out.new ≡ sets out.old at (be 4 n []) }
-{
-    put_bytes(out, at, [byte(n, 24), byte(n, 16), byte(n, 8), byte(n, 0)]);
 }

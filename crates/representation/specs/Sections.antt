@@ -21,9 +21,7 @@ sections_of s = record {
   members = s.members;
   stores = s.stores;
   calls = s.calls;
-  stack = s.depth.max.stack;
-  loops = s.depth.max.loops;
-  handlers = s.depth.max.handlers;
+  depths = s.depth.max;
   flags = cond (in_loop s) s.flags (bit_and s.flags NOT_FLOAT);
   float_loop = cond (in_loop s) s.float_loop false;
 }
