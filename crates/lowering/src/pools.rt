@@ -36,7 +36,7 @@ impl<const WIDTH: usize, const KEY: usize> Region<WIDTH, KEY> {
     fn place(&self, i: u16) -> usize
         ensures { result ≡ self.now.from + WIDTH * i }
     {
-        usize::from(self.from) + WIDTH * usize::from(i)
+        self.from + WIDTH * usize::from(i)
     }
 
     // Whether an entry has the key of the one given.
