@@ -7,14 +7,6 @@ ghost use Rattle.lowering.specs.Regions.{Appends, Interns};
 use crate::regions::Region;
 use workspace::words::{put_word, word};
 
-// What interning gives: the entry's number, and how many entries there are now. A key that is not found gives the number that the appended entry takes, so
-// a caller asks for no case.
-#[derive(Drop)]
-pub struct Interned {
-    pub index: u16,
-    pub count: u16,
-}
-
 // Whether eight words from a place on, `WIDTH` apart, are there, and none of them is the key. All eight are compared, with no branch between them: a branch
 // at each is slower, by a third on constants.
 fn none_is<const WIDTH: usize>(ws: &[u32], at: usize, key: u32) -> bool
@@ -89,33 +81,35 @@ impl<const WIDTH: usize, const KEY: usize> Region<WIDTH, KEY> {
         n
     }
 
-    // An entry after the `n` there are, if there is room: how many there are now.
+    // An entry after the `n` there are, if there is room: the number that it takes.
     #[tactic(auto, unfolding(crate::specs::Regions::appended_count, crate::specs::Regions::appended_words))]
-    pub(crate) fn append(&self, ws: &mut [u32], n: u16, words: &[u32; WIDTH]) -> u16
-        ensures { Appends n self.now.room ws.old (self.now.from + WIDTH * n) words.now ws.new result }
+    pub(crate) fn append(&self, ws: &mut [u32], n: &mut u16, words: &[u32; WIDTH]) -> u16
+        ensures { Appends n.old self.now.room ws.old (self.now.from + WIDTH * n.old) words.now ws.new n.new × (result ≡ n.old) }
     {
-        if n >= self.room {
-            return n;
+        let i = *n;
+        if i < self.room {
+            let at = self.place(i);
+            for j in 0..WIDTH {
+                put_word(ws, at + j, words[j]);
+            }
+            *n = i + 1;
         }
-        let at = self.place(n);
-        for j in 0..WIDTH {
-            put_word(ws, at + j, words[j]);
-        }
-        n + 1
+        i
     }
 
-    // The first entry with that key: found, or appended if there is room. The hint has the callers for one word take it in: without
-    // it `expr` takes in `leaf`, and equal strings are slower.
+    // The number of the first of the `n` entries with that key: found, or appended if there is room. A key that is not found gives the number that the
+    // appended entry takes, so a caller asks for no case. The hint has the callers for one word take it in: without it `expr` takes in `leaf`, and equal
+    // strings are slower.
     #[inline]
     #[tactic(auto, unfolding(crate::specs::Regions::interned, crate::specs::Regions::interned_count, crate::specs::Regions::interned_words))]
-    pub(crate) fn intern(&self, ws: &mut [u32], n: u16, words: &[u32; WIDTH]) -> Interned
-        ensures { Interns (hit ws.old self.now.from WIDTH (take KEY words.now)) n self.now.room ws.old (self.now.from + WIDTH * n) words.now ws.new result }
+    pub(crate) fn intern(&self, ws: &mut [u32], n: &mut u16, words: &[u32; WIDTH]) -> u16
+        ensures { Interns (hit ws.old self.now.from WIDTH (take KEY words.now)) n.old self.now.room ws.old (self.now.from + WIDTH * n.old) words.now ws.new
+            (record { index = result; count = n.new }) }
     {
-        let index = self.find(ws, n, words);
-        if index < n {
-            return Interned { index, count: n };
+        let i = self.find(ws, *n, words);
+        if i >= *n {
+            self.append(ws, n, words);
         }
-        let count = self.append(ws, n, words);
-        Interned { index, count }
+        i
     }
 }
