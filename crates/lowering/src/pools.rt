@@ -1,7 +1,7 @@
 // Entries in regions of a workspace of words: found by key, appended, interned. Past the end a word reads 0, and nothing is written.
 ghost use Rattle.std.specs.Prelude.{◌≡◌, true, ◌+◌, ◌*◌, ◌^◌, ◌<◌, ◌≤◌, take};
 ghost use Rattle.std.proofs.lemmas.List.Edits.{sets};
-ghost use Rattle.lowering.specs.Search.{seek, hit, NoneHas, NoneIs};
+ghost use Rattle.lowering.specs.Search.{hit, Finds, NoneHas, NoneIs};
 ghost use Rattle.lowering.specs.Regions.{Appends, Interns};
 
 use crate::regions::Region;
@@ -69,16 +69,16 @@ impl<const WIDTH: usize, const KEY: usize> Region<WIDTH, KEY> {
         8 * (n / 8)
     }
 
-    // The number of the first of `n` entries that has the key of the one given, or `n`, as `seek` has it: that of an entry appended.
-    fn find(&self, ws: &[u32], n: u16, words: &[u32; WIDTH]) -> u16
-        ensures { result ≡ seek (hit ws.now self.now.from WIDTH (take KEY words.now)) n 0 }
+    // The number of the first of `n` entries that has the key of the one given, as `seek` has it; none has the key where `seek` comes to `n`.
+    fn find(&self, ws: &[u32], n: u16, words: &[u32; WIDTH]) -> Option<u16>
+        ensures { Finds (hit ws.now self.now.from WIDTH (take KEY words.now)) n result }
     {
         for i in self.skip(ws, n, words)..n {
             if self.has_key(ws, i, words) {
-                return i;
+                return Some(i);
             }
         }
-        n
+        None
     }
 
     // An entry after the `n` there are, if there is room: the number that it takes.
@@ -106,10 +106,9 @@ impl<const WIDTH: usize, const KEY: usize> Region<WIDTH, KEY> {
         ensures { Interns (hit ws.old self.now.from WIDTH (take KEY words.now)) n.old self.now.room ws.old (self.now.from + WIDTH * n.old) words.now ws.new
             (record { index = result; count = n.new }) }
     {
-        let i = self.find(ws, *n, words);
-        if i >= *n {
-            self.append(ws, n, words);
+        match self.find(ws, *n, words) {
+            Some(i) => i,
+            None => self.append(ws, n, words),
         }
-        i
     }
 }
