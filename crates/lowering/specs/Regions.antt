@@ -1,7 +1,6 @@
 -- A region after an entry is appended or interned: n of its entries are used, and there is room for a number of them. Definitions only.
 use Rattle.std.specs.Prelude.{◌≡◌, Bool, cond, List, ℕ, ◌+◌, ltb}
 use Rattle.std.proofs.lemmas.List.Edits.{sets}
-use Rattle.lowering.specs.declared.pools.Interned.{Interned}
 use Rattle.lowering.specs.Search.{seek}
 
 -- a full region is left as it is
@@ -21,6 +20,11 @@ interned_count index n room = cond (ltb index n) n (appended_count n room)
 
 unfoldable pub interned_words : ℕ → ℕ → ℕ → List ℕ → ℕ → List ℕ → List ℕ
 interned_words index n room W at entry = cond (ltb index n) W (appended_words n room W at entry)
+
+-- an entry's number, and how many entries there are with it
+pub record Interned : Type 0 where
+  pub index : ℕ
+  pub count : ℕ
 
 unfoldable pub interned : ℕ → ℕ → ℕ → Interned
 interned index n room = record { index = index; count = interned_count index n room }

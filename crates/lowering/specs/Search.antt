@@ -1,10 +1,14 @@
 -- The search for an entry of a region, from the front. Definitions only.
-use Rattle.std.specs.Prelude.{◌≡◌, Bool, true, false, cond, ◌&&◌, List, [], ◌∷◌, ℕ, zero, suc, ◌+◌, ◌*◌, ◌<◌, ◌≤◌, eqb, get_or}
+use Rattle.std.specs.Prelude.{◌≡◌, Bool, true, false, cond, ◌&&◌, List, [], ◌∷◌, ℕ, zero, suc, ◌+◌, ◌*◌, ◌<◌, ◌≤◌, eqb, get_or, Option, MatchOption}
 
 -- the first of the n numbers from i on at which hit holds, or the one after them
 unfoldable pub seek : (ℕ → Bool) → ℕ → ℕ → ℕ
 seek hit zero i = i
 seek hit (suc n) i = cond (hit i) i (seek hit n (suc i))
+
+-- what finding gives: the first of n numbers at which hit holds, or none where it holds at none of them
+abbrev pub Finds : (ℕ → Bool) → ℕ → Option ℕ → Type 0
+Finds hit n r = MatchOption r (seek hit n 0 ≡ n) (λ i. (seek hit n 0 ≡ i) × (i < n))
 
 -- the words from a place on begin with those of a key
 unfoldable pub stands : List ℕ → ℕ → List ℕ → Bool

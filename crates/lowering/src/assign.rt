@@ -58,7 +58,7 @@ fn path_end(node: Node<'_>, levels: u16) -> Option<PathEnd>
 fn add_path(b: &mut Builder<'_>, hash: u64)
     ensures { Did b.old b.new (path_added hash) }
 {
-    b.state.paths = regions::PATHS.append(b.words, b.state.paths, &[high(hash), low(hash)]);
+    regions::PATHS.append(b.words, &mut b.state.paths, &[high(hash), low(hash)]);
 }
 
 // The path's hashes, from the root outwards.
@@ -106,14 +106,13 @@ fn root_index(root: Option<VariableIdx>) -> u16
 fn add_store(b: &mut Builder<'_>, root: Option<VariableIdx>, first: u16, count: u16) -> StoreIdx
     ensures { Gave b.old b.new result.0 (store_added (root_kind root) (root_index root) first count) }
 {
-    let k = b.state.stores;
     let entry = [
         root_kind(root),
         u32::from(root_index(root)),
         u32::from(first),
         u32::from(count),
     ];
-    b.state.stores = regions::STORES.append(b.words, k, &entry);
+    let k = regions::STORES.append(b.words, &mut b.state.stores, &entry);
     StoreIdx(k)
 }
 

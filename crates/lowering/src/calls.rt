@@ -19,7 +19,6 @@ use workspace::words::put_word;
 pub(crate) fn begin_call(b: &mut Builder<'_>, q: QueryRef, count: u16) -> CallIdx
     ensures { Gave b.old b.new result.0 (call_begun q.index q.impl_idx count) }
 {
-    let k = b.state.calls;
     let first = b.state.arguments;
     let entry = [
         u32::from(q.index),
@@ -27,7 +26,7 @@ pub(crate) fn begin_call(b: &mut Builder<'_>, q: QueryRef, count: u16) -> CallId
         u32::from(count),
         u32::from(first),
     ];
-    b.state.calls = regions::CALLS.append(b.words, k, &entry);
+    let k = regions::CALLS.append(b.words, &mut b.state.calls, &entry);
     b.state.arguments = first.saturating_add(count);
     CallIdx(k)
 }

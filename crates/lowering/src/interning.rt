@@ -20,18 +20,16 @@ use workspace::words::{high, low};
 pub(crate) fn konst(b: &mut Builder<'_>, bits: u32) -> ConstIdx
     ensures { Gave b.old b.new result.0 (konst bits) }
 {
-    let i = regions::CONSTS.intern(b.words, b.state.consts, &[bits]);
-    b.state.consts = i.count;
-    ConstIdx(u32::from(i.index))
+    let i = regions::CONSTS.intern(b.words, &mut b.state.consts, &[bits]);
+    ConstIdx(u32::from(i))
 }
 
 #[tactic(auto, unfolding(crate::specs::Pools::hash, crate::specs::Regions::interned))]
 pub(crate) fn hash(b: &mut Builder<'_>, h: u64) -> HashIdx
     ensures { Gave b.old b.new result.0 (hash h) }
 {
-    let i = regions::HASHES.intern(b.words, b.state.hashes, &[high(h), low(h)]);
-    b.state.hashes = i.count;
-    HashIdx(u32::from(i.index))
+    let i = regions::HASHES.intern(b.words, &mut b.state.hashes, &[high(h), low(h)]);
+    HashIdx(u32::from(i))
 }
 
 // The place of a text's length byte: the one before the text. `as` cuts what has been made to fit.
@@ -47,9 +45,8 @@ pub(crate) fn name(b: &mut Builder<'_>, n: NameRef) -> NameIdx
     ensures { Gave b.old b.new result.0 (name n) }
 {
     let entry = [high(n.hash), low(n.hash), text_place(n.at)];
-    let i = regions::NAMES.intern(b.words, b.state.names, &entry);
-    b.state.names = i.count;
-    NameIdx(i.index)
+    let i = regions::NAMES.intern(b.words, &mut b.state.names, &entry);
+    NameIdx(i)
 }
 
 // A member, by its own hash and the last one of its path.
@@ -65,9 +62,8 @@ pub(crate) fn member(b: &mut Builder<'_>, own: NameRef, last: NameRef) -> Member
         text_place(own.at),
         text_place(last.at),
     ];
-    let i = regions::MEMBERS.intern(b.words, b.state.members, &entry);
-    b.state.members = i.count;
-    MemberIdx(i.index)
+    let i = regions::MEMBERS.intern(b.words, &mut b.state.members, &entry);
+    MemberIdx(i)
 }
 
 // The slot of a temp, by its name.
@@ -75,9 +71,8 @@ pub(crate) fn member(b: &mut Builder<'_>, own: NameRef, last: NameRef) -> Member
 fn slot(b: &mut Builder<'_>, named: NameIdx) -> TempIdx
     ensures { Gave b.old b.new result.0 (slot named.0) }
 {
-    let i = regions::TEMPS.intern(b.words, b.state.temps, &[u32::from(named.0)]);
-    b.state.temps = i.count;
-    TempIdx(i.index)
+    let i = regions::TEMPS.intern(b.words, &mut b.state.temps, &[u32::from(named.0)]);
+    TempIdx(i)
 }
 
 // Whether a post is the identity: the test of its floats is that of their patterns.
@@ -97,9 +92,8 @@ pub(crate) fn post_of(b: &mut Builder<'_>, p: PostOp, bits: PostBits) -> PostIdx
     if is_identity(p, bits) {
         return PostIdx::PLAIN;
     }
-    let i = regions::POSTS.intern(b.words, b.state.posts, &[bits.scale, bits.offset]);
-    b.state.posts = i.count;
-    PostIdx(i.index.saturating_add(1))
+    let i = regions::POSTS.intern(b.words, &mut b.state.posts, &[bits.scale, bits.offset]);
+    PostIdx(i.saturating_add(1))
 }
 
 // A temp: its name first, then its slot; the program uses temps.

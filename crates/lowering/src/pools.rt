@@ -1,19 +1,11 @@
 // Entries in regions of a workspace of words: found by key, appended, interned. Past the end a word reads 0, and nothing is written.
 ghost use Rattle.std.specs.Prelude.{◌≡◌, true, ◌+◌, ◌*◌, ◌^◌, ◌<◌, ◌≤◌, take};
 ghost use Rattle.std.proofs.lemmas.List.Edits.{sets};
-ghost use Rattle.lowering.specs.Search.{seek, hit, NoneHas, NoneIs};
+ghost use Rattle.lowering.specs.Search.{hit, Finds, NoneHas, NoneIs};
 ghost use Rattle.lowering.specs.Regions.{Appends, Interns};
 
 use crate::regions::Region;
 use workspace::words::{put_word, word};
-
-// What interning gives: the entry's number, and how many entries there are now. A key that is not found gives the number that the appended entry takes, so
-// a caller asks for no case.
-#[derive(Drop)]
-pub struct Interned {
-    pub index: u16,
-    pub count: u16,
-}
 
 // Whether eight words from a place on, `WIDTH` apart, are there, and none of them is the key. All eight are compared, with no branch between them: a branch
 // at each is slower, by a third on constants.
@@ -36,7 +28,7 @@ impl<const WIDTH: usize, const KEY: usize> Region<WIDTH, KEY> {
     fn place(&self, i: u16) -> usize
         ensures { result ≡ self.now.from + WIDTH * i }
     {
-        usize::from(self.from) + WIDTH * usize::from(i)
+        self.from + WIDTH * usize::from(i)
     }
 
     // Whether an entry has the key of the one given.
@@ -77,45 +69,46 @@ impl<const WIDTH: usize, const KEY: usize> Region<WIDTH, KEY> {
         8 * (n / 8)
     }
 
-    // The number of the first of `n` entries that has the key of the one given, or `n`, as `seek` has it: that of an entry appended.
-    fn find(&self, ws: &[u32], n: u16, words: &[u32; WIDTH]) -> u16
-        ensures { result ≡ seek (hit ws.now self.now.from WIDTH (take KEY words.now)) n 0 }
+    // The number of the first of `n` entries that has the key of the one given, as `seek` has it; none has the key where `seek` comes to `n`.
+    fn find(&self, ws: &[u32], n: u16, words: &[u32; WIDTH]) -> Option<u16>
+        ensures { Finds (hit ws.now self.now.from WIDTH (take KEY words.now)) n result }
     {
         for i in self.skip(ws, n, words)..n {
             if self.has_key(ws, i, words) {
-                return i;
+                return Some(i);
             }
         }
-        n
+        None
     }
 
-    // An entry after the `n` there are, if there is room: how many there are now.
+    // An entry after the `n` there are, if there is room: the number that it takes.
     #[tactic(auto, unfolding(crate::specs::Regions::appended_count, crate::specs::Regions::appended_words))]
-    pub(crate) fn append(&self, ws: &mut [u32], n: u16, words: &[u32; WIDTH]) -> u16
-        ensures { Appends n self.now.room ws.old (self.now.from + WIDTH * n) words.now ws.new result }
+    pub(crate) fn append(&self, ws: &mut [u32], n: &mut u16, words: &[u32; WIDTH]) -> u16
+        ensures { Appends n.old self.now.room ws.old (self.now.from + WIDTH * n.old) words.now ws.new n.new × (result ≡ n.old) }
     {
-        if n >= self.room {
-            return n;
+        let i = *n;
+        if i < self.room {
+            let at = self.place(i);
+            for j in 0..WIDTH {
+                put_word(ws, at + j, words[j]);
+            }
+            *n = i + 1;
         }
-        let at = self.place(n);
-        for j in 0..WIDTH {
-            put_word(ws, at + j, words[j]);
-        }
-        n + 1
+        i
     }
 
-    // The first entry with that key: found, or appended if there is room. The hint has the callers for one word take it in: without
-    // it `expr` takes in `leaf`, and equal strings are slower.
+    // The number of the first of the `n` entries with that key: found, or appended if there is room. A key that is not found gives the number that the
+    // appended entry takes, so a caller asks for no case. The hint has the callers for one word take it in: without it `expr` takes in `leaf`, and equal
+    // strings are slower.
     #[inline]
     #[tactic(auto, unfolding(crate::specs::Regions::interned, crate::specs::Regions::interned_count, crate::specs::Regions::interned_words))]
-    pub(crate) fn intern(&self, ws: &mut [u32], n: u16, words: &[u32; WIDTH]) -> Interned
-        ensures { Interns (hit ws.old self.now.from WIDTH (take KEY words.now)) n self.now.room ws.old (self.now.from + WIDTH * n) words.now ws.new result }
+    pub(crate) fn intern(&self, ws: &mut [u32], n: &mut u16, words: &[u32; WIDTH]) -> u16
+        ensures { Interns (hit ws.old self.now.from WIDTH (take KEY words.now)) n.old self.now.room ws.old (self.now.from + WIDTH * n.old) words.now ws.new
+            (record { index = result; count = n.new }) }
     {
-        let index = self.find(ws, n, words);
-        if index < n {
-            return Interned { index, count: n };
+        match self.find(ws, *n, words) {
+            Some(i) => i,
+            None => self.append(ws, n, words),
         }
-        let count = self.append(ws, n, words);
-        Interned { index, count }
     }
 }
