@@ -416,21 +416,20 @@ fn add(b: &mut Builder<'_>, node: Node<'_>, inside: Inside)
     pop(b, 1);
 }
 
-// `m` terms and the last, from the second on.
+// The second term, and the `m` behind it.
 #[cycle(expression)]
-#[tactic(auto, unfolding(crate::specs::Rules::terms))]
+#[tactic(auto, unfolding(crate::proofs::Rounds::terms_behind), using(crate::proofs::Rounds::terms_after_first))]
 fn terms(b: &mut Builder<'_>, node: Node<'_>, m: u16, inside: Inside)
     ensures { Did b.old b.new
         (over node.entry inside.levels R.terms node.entry.at m
         (next_at (bytes node.entry) (first_at (bytes node.entry) node.entry.at)) inside.looping) }
 {
-    let mut term = node.first().next();
-    for _ in 0..m {
-        expr(b, term, inside);
+    let second = node.first().next();
+    expr(b, second, inside);
+    for term in second.next().siblings(m) {
         instr(b, Opcode::AddAcc, 0, 0, PostIdx::PLAIN);
-        term = term.next();
+        expr(b, term, inside);
     }
-    expr(b, term, inside);
     put_post(b, node, Opcode::AddLast, 0, 0);
 }
 
@@ -499,21 +498,20 @@ fn host_math(b: &mut Builder<'_>, node: Node<'_>, bits: u16, inside: Inside)
     pop(b, count - 1);
 }
 
-// `m` arguments and the last of `k`, from the first on.
+// The first argument, and the `m` behind it; `k` is how many they are.
 #[cycle(expression)]
-#[tactic(auto, unfolding(crate::specs::Rules::host_arguments))]
+#[tactic(auto, unfolding(crate::proofs::Rounds::arguments_behind), using(crate::proofs::Rounds::host_after_first))]
 fn host(b: &mut Builder<'_>, node: Node<'_>, f: u16, k: u8, m: u16, inside: Inside)
     ensures { Did b.old b.new
         (over node.entry inside.levels R.host_arguments node.entry.at f k m
         (first_at (bytes node.entry) node.entry.at) inside.looping) }
 {
-    let mut argument = node.first();
-    for _ in 0..m {
-        expr(b, argument, inside);
+    let first = node.first();
+    expr(b, first, inside);
+    for argument in first.next().siblings(m) {
         b.push();
-        argument = argument.next();
+        expr(b, argument, inside);
     }
-    expr(b, argument, inside);
     put_post(b, node, Opcode::HostMath, k, u32::from(f));
 }
 
@@ -564,8 +562,7 @@ fn segs(b: &mut Builder<'_>, a: Node<'_>, m: u16, first: u16, levels: u16)
 {
     let base = b.state.base;
     let waiting = b.state.waiting;
-    let mut argument = a;
-    for i in 0..m {
+    for (i, argument) in (0..m).zip(a.siblings(m)) {
         b.open_segment();
         let inside = Inside {
             looping: false,
@@ -573,7 +570,6 @@ fn segs(b: &mut Builder<'_>, a: Node<'_>, m: u16, first: u16, levels: u16)
         };
         expr(b, argument, inside);
         calls::end_argument(b, base, waiting, first.saturating_add(i));
-        argument = argument.next();
     }
 }
 
@@ -635,14 +631,12 @@ fn conditional(b: &mut Builder<'_>, node: Node<'_>, inside: Inside)
 
 // Each statement, and the constant of the list behind the last.
 #[cycle(expression)]
-#[tactic(auto, unfolding(crate::specs::Rules::statements))]
+#[tactic(auto, unfolding(crate::specs::Rules::statements, crate::specs::Rules::statements_from))]
 fn statements(b: &mut Builder<'_>, node: Node<'_>, inside: Inside)
     ensures { Did b.old b.new (lowered_as node.entry inside R.statements) }
 {
-    let mut child = node.first();
-    for _ in 0..node.count() {
+    for child in node.children() {
         item(b, child, inside);
-        child = child.next();
     }
     interning::constant(b, values::list_constant(node));
 }
