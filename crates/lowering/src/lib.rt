@@ -279,7 +279,7 @@ fn rhs(b: &mut Builder<'_>, node: Node<'_>, inside: Inside)
 }
 
 // ---- logic
-// `compare` and `equal` differ in their instructions, in the type of what is compared and in what a constant becomes: one function over these is longer.
+// `compare` and `equal` differ in instruction, type and what a constant becomes: one function over an enum of both takes 27 lines for 33, and 8 of specs/.
 
 // Two operands with a Push between them, the one at `a` first.
 #[cycle(expression)]
