@@ -8,4 +8,5 @@ pub mod Steps
 pub mod Parts
 pub mod Leaves
 pub mod Rules
+pub mod Nodes
 pub mod Done

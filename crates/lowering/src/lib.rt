@@ -25,6 +25,7 @@ ghost use Rattle.lowering.specs.Held.{Held};
 ghost use Rattle.builder.specs.Done.{Did};
 ghost use Rattle.lowering.specs.Parts.{each_next};
 ghost use Rattle.lowering.specs.Rules as R;
+ghost use Rattle.lowering.specs.Nodes.{over, lowered_as};
 
 use answers::refusals::Refusal;
 use ast::{header, operators};
@@ -190,7 +191,7 @@ fn expr(b: &mut Builder<'_>, node: Node<'_>, inside: Inside)
 #[cycle(expression)]
 #[tactic(auto, unfolding(crate::specs::Rules::array_element, crate::specs::Payloads::as_name, crate::specs::Payloads::cases))]
 fn element(b: &mut Builder<'_>, node: Node<'_>, inside: Inside)
-    ensures { Did b.old b.new (R.under (bytes node.entry) inside.levels (R.array_element (bytes node.entry)) node.entry.at inside.looping) }
+    ensures { Did b.old b.new (lowered_as node.entry inside R.array_element) }
 {
     if wire::get_u8(*node.image, 0, header::ARRAYS) != 1 {
         return b.failed(Refusal::UsesArrays);
@@ -230,7 +231,7 @@ fn chain(b: &mut Builder<'_>, node: Node<'_>, last: NameRef, inside: Inside)
 #[cycle(expression)]
 #[tactic(auto, unfolding(crate::specs::Rules::member_read, crate::specs::Rules::chained, crate::specs::Payloads::as_name, crate::specs::Payloads::cases))]
 fn member(b: &mut Builder<'_>, node: Node<'_>, inside: Inside)
-    ensures { Did b.old b.new (R.under (bytes node.entry) inside.levels (R.member_read (bytes node.entry)) node.entry.at inside.looping) }
+    ensures { Did b.old b.new (lowered_as node.entry inside R.member_read) }
 {
     not_float_only(b);
     flag(b, Flags::USES_MEMBERS);
@@ -248,7 +249,7 @@ fn member(b: &mut Builder<'_>, node: Node<'_>, inside: Inside)
 #[cycle(expression)]
 #[tactic(auto, unfolding(crate::specs::Rules::assignment, crate::specs::Leaves::store))]
 fn assignment(b: &mut Builder<'_>, node: Node<'_>, inside: Inside)
-    ensures { Did b.old b.new (R.under (bytes node.entry) inside.levels (R.assignment (bytes node.entry)) inside.levels node.entry.at inside.looping) }
+    ensures { Did b.old b.new (over node.entry inside.levels R.assignment inside.levels node.entry.at inside.looping) }
 {
     let count = node.count();
     if count == 0 {
@@ -268,8 +269,7 @@ fn assignment(b: &mut Builder<'_>, node: Node<'_>, inside: Inside)
 #[cycle(expression)]
 #[tactic(auto, unfolding(crate::specs::Rules::value))]
 fn rhs(b: &mut Builder<'_>, node: Node<'_>, inside: Inside)
-    ensures { Did b.old b.new
-        (R.under (bytes node.entry) inside.levels (R.value (bytes node.entry)) node.entry.at (first_at (bytes node.entry) node.entry.at) inside.looping) }
+    ensures { Did b.old b.new (over node.entry inside.levels R.value node.entry.at (first_at (bytes node.entry) node.entry.at) inside.looping) }
 {
     if node.count() == 1 {
         let p = payload_of(node);
@@ -279,13 +279,13 @@ fn rhs(b: &mut Builder<'_>, node: Node<'_>, inside: Inside)
 }
 
 // ---- logic
-// `compare` and `equal` differ in their instructions, in the type of what is compared and in what a constant becomes: one function over these is longer.
+// `compare` and `equal` differ in instruction, type and what a constant becomes: one function over an enum of both takes 27 lines for 33, and 8 of specs/.
 
 // Two operands with a Push between them, the one at `a` first.
 #[cycle(expression)]
 #[tactic(auto, unfolding(crate::specs::Rules::binary))]
 fn binary(b: &mut Builder<'_>, a: Node<'_>, inside: Inside)
-    ensures { Did b.old b.new (R.under (bytes a.entry) inside.levels (R.binary (bytes a.entry)) a.entry.at inside.looping) }
+    ensures { Did b.old b.new (lowered_as a.entry inside R.binary) }
 {
     expr(b, a, inside);
     b.push();
@@ -295,7 +295,7 @@ fn binary(b: &mut Builder<'_>, a: Node<'_>, inside: Inside)
 #[cycle(expression)]
 #[tactic(auto, unfolding(crate::specs::Rules::compare))]
 fn compare(b: &mut Builder<'_>, node: Node<'_>, o: Comparison, inside: Inside)
-    ensures { Did b.old b.new (R.under (bytes node.entry) inside.levels (R.compare (bytes node.entry)) (comparison_of o) node.entry.at inside.looping) }
+    ensures { Did b.old b.new (over node.entry inside.levels R.compare (comparison_of o) node.entry.at inside.looping) }
 {
     let count = node.count();
     if count == 0 {
@@ -315,7 +315,7 @@ fn compare(b: &mut Builder<'_>, node: Node<'_>, o: Comparison, inside: Inside)
 #[cycle(expression)]
 #[tactic(auto, unfolding(crate::specs::Rules::equal))]
 fn equal(b: &mut Builder<'_>, node: Node<'_>, o: Equality, inside: Inside)
-    ensures { Did b.old b.new (R.under (bytes node.entry) inside.levels (R.equal (bytes node.entry)) (equality_of o) node.entry.at inside.looping) }
+    ensures { Did b.old b.new (over node.entry inside.levels R.equal (equality_of o) node.entry.at inside.looping) }
 {
     let count = node.count();
     if count == 0 {
@@ -336,8 +336,7 @@ fn equal(b: &mut Builder<'_>, node: Node<'_>, o: Equality, inside: Inside)
 #[cycle(expression)]
 #[tactic(auto, unfolding(crate::specs::Rules::logic))]
 fn logic(b: &mut Builder<'_>, node: Node<'_>, step: Opcode, last: Opcode, inside: Inside)
-    ensures { Did b.old b.new
-        (R.under (bytes node.entry) inside.levels (R.logic (bytes node.entry)) (number_of step) (number_of last) node.entry.at inside.looping) }
+    ensures { Did b.old b.new (over node.entry inside.levels R.logic (number_of step) (number_of last) node.entry.at inside.looping) }
 {
     let count = node.count();
     if count == 0 {
@@ -359,8 +358,7 @@ fn ops(
     m: u16,
     inside: Inside,
 )
-    ensures { Did b.old b.new
-        (R.under (bytes a.entry) inside.levels (R.operands (bytes a.entry)) (number_of step) (number_of last) q.0 m a.entry.at inside.looping) }
+    ensures { Did b.old b.new (over a.entry inside.levels R.operands (number_of step) (number_of last) q.0 m a.entry.at inside.looping) }
 {
     expr(b, a, inside);
     let alone = m == 0;
@@ -378,7 +376,7 @@ fn ops(
 #[cycle(expression)]
 #[tactic(auto, unfolding(crate::specs::Rules::bracket))]
 fn par(b: &mut Builder<'_>, node: Node<'_>, inside: Inside)
-    ensures { Did b.old b.new (R.under (bytes node.entry) inside.levels (R.bracket (bytes node.entry)) node.entry.at inside.looping) }
+    ensures { Did b.old b.new (lowered_as node.entry inside R.bracket) }
 {
     if node.count() == 0 {
         return b.failed(Refusal::Failed);
@@ -389,7 +387,7 @@ fn par(b: &mut Builder<'_>, node: Node<'_>, inside: Inside)
 #[cycle(expression)]
 #[tactic(auto, unfolding(crate::specs::Rules::unary))]
 fn unary(b: &mut Builder<'_>, node: Node<'_>, op: Opcode, inside: Inside)
-    ensures { Did b.old b.new (R.under (bytes node.entry) inside.levels (R.unary (bytes node.entry)) (number_of op) node.entry.at inside.looping) }
+    ensures { Did b.old b.new (over node.entry inside.levels R.unary (number_of op) node.entry.at inside.looping) }
 {
     if node.count() == 0 {
         return b.failed(Refusal::Failed);
@@ -402,7 +400,7 @@ fn unary(b: &mut Builder<'_>, node: Node<'_>, op: Opcode, inside: Inside)
 #[cycle(expression)]
 #[tactic(auto, unfolding(crate::specs::Rules::add))]
 fn add(b: &mut Builder<'_>, node: Node<'_>, inside: Inside)
-    ensures { Did b.old b.new (R.under (bytes node.entry) inside.levels (R.add (bytes node.entry)) node.entry.at inside.looping) }
+    ensures { Did b.old b.new (lowered_as node.entry inside R.add) }
 {
     let count = node.count();
     if count == 0 {
@@ -418,28 +416,27 @@ fn add(b: &mut Builder<'_>, node: Node<'_>, inside: Inside)
     pop(b, 1);
 }
 
-// `m` terms and the last, from the second on.
+// The second term, and the `m` behind it.
 #[cycle(expression)]
-#[tactic(auto, unfolding(crate::specs::Rules::terms))]
+#[tactic(auto, unfolding(crate::proofs::Rounds::terms_behind), using(crate::proofs::Rounds::terms_after_first))]
 fn terms(b: &mut Builder<'_>, node: Node<'_>, m: u16, inside: Inside)
     ensures { Did b.old b.new
-        (R.under (bytes node.entry) inside.levels (R.terms (bytes node.entry)) node.entry.at m
+        (over node.entry inside.levels R.terms node.entry.at m
         (next_at (bytes node.entry) (first_at (bytes node.entry) node.entry.at)) inside.looping) }
 {
-    let mut term = node.first().next();
-    for _ in 0..m {
-        expr(b, term, inside);
+    let second = node.first().next();
+    expr(b, second, inside);
+    for term in second.next().siblings(m) {
         instr(b, Opcode::AddAcc, 0, 0, PostIdx::PLAIN);
-        term = term.next();
+        expr(b, term, inside);
     }
-    expr(b, term, inside);
     put_post(b, node, Opcode::AddLast, 0, 0);
 }
 
 #[cycle(expression)]
 #[tactic(auto, unfolding(crate::specs::Rules::mul))]
 fn mul(b: &mut Builder<'_>, node: Node<'_>, inside: Inside)
-    ensures { Did b.old b.new (R.under (bytes node.entry) inside.levels (R.mul (bytes node.entry)) node.entry.at inside.looping) }
+    ensures { Did b.old b.new (lowered_as node.entry inside R.mul) }
 {
     if node.count() < 2 {
         return b.failed(Refusal::Failed);
@@ -464,7 +461,7 @@ fn divisor(tree: &[u8]) -> Divisor
 #[cycle(expression)]
 #[tactic(auto, unfolding(crate::specs::Rules::div))]
 fn div(b: &mut Builder<'_>, node: Node<'_>, inside: Inside)
-    ensures { Did b.old b.new (R.under (bytes node.entry) inside.levels (R.div (bytes node.entry)) node.entry.at inside.looping) }
+    ensures { Did b.old b.new (lowered_as node.entry inside R.div) }
 {
     if node.count() < 2 {
         return b.failed(Refusal::Failed);
@@ -483,7 +480,7 @@ fn div(b: &mut Builder<'_>, node: Node<'_>, inside: Inside)
 #[cycle(expression)]
 #[tactic(auto, unfolding(crate::specs::Rules::host_math, crate::specs::Payloads::as_math, crate::specs::Payloads::cases))]
 fn host_math(b: &mut Builder<'_>, node: Node<'_>, bits: u16, inside: Inside)
-    ensures { Did b.old b.new (R.under (bytes node.entry) inside.levels (R.host_math (bytes node.entry)) bits node.entry.at inside.looping) }
+    ensures { Did b.old b.new (over node.entry inside.levels R.host_math bits node.entry.at inside.looping) }
 {
     flag(b, bits);
     let p = payload_of(node);
@@ -501,21 +498,20 @@ fn host_math(b: &mut Builder<'_>, node: Node<'_>, bits: u16, inside: Inside)
     pop(b, count - 1);
 }
 
-// `m` arguments and the last of `k`, from the first on.
+// The first argument, and the `m` behind it; `k` is how many they are.
 #[cycle(expression)]
-#[tactic(auto, unfolding(crate::specs::Rules::host_arguments))]
+#[tactic(auto, unfolding(crate::proofs::Rounds::arguments_behind), using(crate::proofs::Rounds::host_after_first))]
 fn host(b: &mut Builder<'_>, node: Node<'_>, f: u16, k: u8, m: u16, inside: Inside)
     ensures { Did b.old b.new
-        (R.under (bytes node.entry) inside.levels (R.host_arguments (bytes node.entry)) node.entry.at f k m
+        (over node.entry inside.levels R.host_arguments node.entry.at f k m
         (first_at (bytes node.entry) node.entry.at) inside.looping) }
 {
-    let mut argument = node.first();
-    for _ in 0..m {
-        expr(b, argument, inside);
+    let first = node.first();
+    expr(b, first, inside);
+    for argument in first.next().siblings(m) {
         b.push();
-        argument = argument.next();
+        expr(b, argument, inside);
     }
-    expr(b, argument, inside);
     put_post(b, node, Opcode::HostMath, k, u32::from(f));
 }
 
@@ -525,7 +521,7 @@ fn host(b: &mut Builder<'_>, node: Node<'_>, f: u16, k: u8, m: u16, inside: Insi
 #[cycle(expression)]
 #[tactic(auto, unfolding(crate::specs::Rules::pointer))]
 fn pointer(b: &mut Builder<'_>, node: Node<'_>, inside: Inside)
-    ensures { Did b.old b.new (R.under (bytes node.entry) inside.levels (R.pointer (bytes node.entry)) node.entry.at inside.looping) }
+    ensures { Did b.old b.new (lowered_as node.entry inside R.pointer) }
 {
     not_float_only(b);
     flag(b, Flags::USES_ARROW);
@@ -544,7 +540,7 @@ fn pointer(b: &mut Builder<'_>, node: Node<'_>, inside: Inside)
 #[cycle(expression)]
 #[tactic(auto, unfolding(crate::specs::Rules::query, crate::specs::Rules::called, crate::specs::Payloads::as_query, crate::specs::Payloads::cases))]
 fn query(b: &mut Builder<'_>, node: Node<'_>, levels: u16)
-    ensures { Did b.old b.new (R.under (bytes node.entry) levels (R.query (bytes node.entry)) node.entry.at) }
+    ensures { Did b.old b.new (over node.entry levels R.query node.entry.at) }
 {
     let p = payload_of(node);
     let Payload::Query(q) = p else {
@@ -562,12 +558,11 @@ fn query(b: &mut Builder<'_>, node: Node<'_>, levels: u16)
 #[cycle(expression)]
 #[tactic(auto, unfolding(crate::specs::Rules::arguments))]
 fn segs(b: &mut Builder<'_>, a: Node<'_>, m: u16, first: u16, levels: u16)
-    ensures { Did b.old b.new (R.under (bytes a.entry) levels (R.arguments (bytes a.entry)) b.old.state.base b.old.state.waiting m a.entry.at first) }
+    ensures { Did b.old b.new (over a.entry levels R.arguments b.old.state.base b.old.state.waiting m a.entry.at first) }
 {
     let base = b.state.base;
     let waiting = b.state.waiting;
-    let mut argument = a;
-    for i in 0..m {
+    for (i, argument) in (0..m).zip(a.siblings(m)) {
         b.open_segment();
         let inside = Inside {
             looping: false,
@@ -575,7 +570,6 @@ fn segs(b: &mut Builder<'_>, a: Node<'_>, m: u16, first: u16, levels: u16)
         };
         expr(b, argument, inside);
         calls::end_argument(b, base, waiting, first.saturating_add(i));
-        argument = argument.next();
     }
 }
 
@@ -584,7 +578,7 @@ fn segs(b: &mut Builder<'_>, a: Node<'_>, m: u16, first: u16, levels: u16)
 #[cycle(expression)]
 #[tactic(auto, unfolding(crate::specs::Rules::coalesce))]
 fn coalesce(b: &mut Builder<'_>, node: Node<'_>, inside: Inside)
-    ensures { Did b.old b.new (R.under (bytes node.entry) inside.levels (R.coalesce (bytes node.entry)) node.entry.at inside.looping) }
+    ensures { Did b.old b.new (lowered_as node.entry inside R.coalesce) }
 {
     if node.count() < 2 {
         return b.failed(Refusal::Failed);
@@ -606,7 +600,7 @@ fn coalesce(b: &mut Builder<'_>, node: Node<'_>, inside: Inside)
 #[tactic(auto, unfolding(crate::specs::Rules::alternative))]
 fn alt(b: &mut Builder<'_>, node: Node<'_>, inside: Inside)
     ensures { Did b.old b.new
-        (R.under (bytes node.entry) inside.levels (R.alternative (bytes node.entry)) node.entry.at
+        (over node.entry inside.levels R.alternative node.entry.at
         (next_at (bytes node.entry) (first_at (bytes node.entry) node.entry.at)) inside.looping) }
 {
     if node.count() < 3 {
@@ -619,7 +613,7 @@ fn alt(b: &mut Builder<'_>, node: Node<'_>, inside: Inside)
 #[cycle(expression)]
 #[tactic(auto, unfolding(crate::specs::Rules::conditional))]
 fn conditional(b: &mut Builder<'_>, node: Node<'_>, inside: Inside)
-    ensures { Did b.old b.new (R.under (bytes node.entry) inside.levels (R.conditional (bytes node.entry)) node.entry.at inside.looping) }
+    ensures { Did b.old b.new (lowered_as node.entry inside R.conditional) }
 {
     if node.count() < 2 {
         return b.failed(Refusal::Failed);
@@ -637,14 +631,12 @@ fn conditional(b: &mut Builder<'_>, node: Node<'_>, inside: Inside)
 
 // Each statement, and the constant of the list behind the last.
 #[cycle(expression)]
-#[tactic(auto, unfolding(crate::specs::Rules::statements))]
+#[tactic(auto, unfolding(crate::specs::Rules::statements, crate::specs::Rules::statements_from))]
 fn statements(b: &mut Builder<'_>, node: Node<'_>, inside: Inside)
-    ensures { Did b.old b.new (R.under (bytes node.entry) inside.levels (R.statements (bytes node.entry)) node.entry.at inside.looping) }
+    ensures { Did b.old b.new (lowered_as node.entry inside R.statements) }
 {
-    let mut child = node.first();
-    for _ in 0..node.count() {
+    for child in node.children() {
         item(b, child, inside);
-        child = child.next();
     }
     interning::constant(b, values::list_constant(node));
 }
@@ -653,7 +645,7 @@ fn statements(b: &mut Builder<'_>, node: Node<'_>, inside: Inside)
 #[cycle(expression)]
 #[tactic(auto, unfolding(crate::specs::Rules::statement))]
 fn item(b: &mut Builder<'_>, node: Node<'_>, inside: Inside)
-    ensures { Did b.old b.new (R.under (bytes node.entry) inside.levels (R.statement (bytes node.entry)) node.entry.at inside.looping) }
+    ensures { Did b.old b.new (lowered_as node.entry inside R.statement) }
 {
     if node.rule() == operators::RETURN {
         return ret(b, node, inside);
@@ -682,7 +674,7 @@ fn ret(b: &mut Builder<'_>, node: Node<'_>, inside: Inside)
 #[cycle(expression)]
 #[tactic(auto, unfolding(crate::specs::Rules::counted_loop))]
 fn repeat(b: &mut Builder<'_>, node: Node<'_>, inside: Inside)
-    ensures { Did b.old b.new (R.under (bytes node.entry) inside.levels (R.counted_loop (bytes node.entry)) node.entry.at inside.looping) }
+    ensures { Did b.old b.new (lowered_as node.entry inside R.counted_loop) }
 {
     flag(b, Flags::HAS_LOOPS);
     if node.count() < 2 {
@@ -703,7 +695,7 @@ fn repeat(b: &mut Builder<'_>, node: Node<'_>, inside: Inside)
 #[cycle(expression)]
 #[tactic(auto, unfolding(crate::specs::Rules::for_each))]
 fn for_each(b: &mut Builder<'_>, node: Node<'_>, inside: Inside)
-    ensures { Did b.old b.new (R.under (bytes node.entry) inside.levels (R.for_each (bytes node.entry)) node.entry.at inside.looping) }
+    ensures { Did b.old b.new (lowered_as node.entry inside R.for_each) }
 {
     flag(b, Flags::HAS_LOOPS);
     not_float_only(b);
@@ -720,7 +712,7 @@ fn for_each(b: &mut Builder<'_>, node: Node<'_>, inside: Inside)
 #[cycle(expression)]
 #[tactic(auto, unfolding(crate::specs::Rules::each))]
 fn each(b: &mut Builder<'_>, node: Node<'_>, k: VariableIdx, inside: Inside)
-    ensures { Did b.old b.new (R.under (bytes node.entry) inside.levels (R.each (bytes node.entry)) node.entry.at (each_next k) inside.looping) }
+    ensures { Did b.old b.new (over node.entry inside.levels R.each node.entry.at (each_next k) inside.looping) }
 {
     let array = node.first().next();
     expr(b, array, inside);

@@ -2,11 +2,12 @@
 #![tactic(auto)]
 
 ghost use Rattle.std.specs.Prelude.{◌≡◌, ◌<◌, ◌≤◌, length};
+ghost use Rattle.std.specs.Iterator.{at_most};
 ghost use Rattle.wire.specs.Bytes.{reach};
 ghost use Rattle.ast.specs.Rules.{rule_of};
 ghost use Rattle.ast.specs.Kinds.{KindOf};
 ghost use Rattle.ast.specs.Node.{len_at, op_at, scale_at, offset_at, kind_at, size_at, count_at, first_at, next_at};
-ghost use Rattle.tree.specs.Nodes.{bytes};
+ghost use Rattle.tree.specs.Nodes.{bytes, first_child, Walks};
 
 use ast::kinds::{Kind, UnknownKind};
 
@@ -22,6 +23,31 @@ pub fn place(s: &[u8], p: usize, k: usize) -> usize
     ensures { (result ≡ reach s.now p k) × (result ≤ length s.now) }
 {
     p.saturating_add(k).min(s.len())
+}
+
+// A walk over nodes one behind the other: `left` are still to come, from `next` on.
+#[derive(Drop)]
+pub struct Siblings<'a> {
+    next: Node<'a>,
+    left: u16,
+}
+
+impl<'a> Iterator for Siblings<'a> {
+    type Item = Node<'a>;
+
+    ghost next_gives = { Walks };
+
+    ghost remaining = { λ s. at_most s.left };
+
+    fn next(&mut self) -> Option<Node<'a>> {
+        if self.left == 0 {
+            return None;
+        }
+        let node = self.next;
+        self.left -= 1;
+        self.next = node.next();
+        Some(node)
+    }
 }
 
 impl<'a> Node<'a> {
@@ -112,5 +138,22 @@ impl<'a> Node<'a> {
         ensures { (result ≡ record { image = self.entry.image; at = next_at (bytes self.entry) self.entry.at }) × (result.at ≤ length (bytes self.entry)) }
     {
         self.behind(4 + (self.length() as usize))
+    }
+
+    // So many nodes one behind the other, this one first.
+    pub fn siblings(self, count: u16) -> Siblings<'a>
+        ensures { result ≡ record { next = self.entry; left = count } }
+    {
+        Siblings {
+            next: self,
+            left: count,
+        }
+    }
+
+    // The children in order.
+    pub fn children(self) -> Siblings<'a>
+        ensures { result ≡ record { next = first_child self.entry; left = count_at (bytes self.entry) self.entry.at } }
+    {
+        self.first().siblings(self.count())
     }
 }

@@ -1,10 +1,14 @@
 -- The measures of the cycle, and what each of its loops keeps. A level outweighs all that one node's rule does without going a level down.
-use Rattle.std.proofs.Common.{◌≡◌, ◌+◌, ◌-◌, ◌*◌}
+use Rattle.std.proofs.Common.{◌≡◌, ◌+◌, ◌*◌}
+use Rattle.std.specs.Iterator.Adapters.{zip_first, zip_second}
 use Rattle.workspace.specs.Counts.{sum}
 use Rattle.ast.specs.Node.{offset_at, count_at, first_at, next_at}
 use Rattle.lowering.specs.Held.{Held}
 use Rattle.builder.specs.Done.{held}
+use Rattle.tree.specs.Nodes.{bytes}
 use Rattle.lowering.specs.Rules as R
+use Rattle.lowering.specs.Nodes.{over}
+use Rattle.lowering.proofs.Rounds.{terms_behind, arguments_behind}
 use Rattle.lowering.proofs.+expression.Given as goal
 
 abbrev pub decreases-expr : goal.decreases-expr
@@ -100,31 +104,36 @@ decreases-for_each l = 200000 * l.inside.levels + 80000
 abbrev pub decreases-each : goal.decreases-each
 decreases-each l = 200000 * l.inside.levels + 70000
 
--- what the rounds left make of the builder is what all of them make of it at the start; it holds the words that it was lent, and the child is of the image
-abbrev pub invariant-terms-loop : goal.invariant-terms-loop
-invariant-terms-loop l =
-    let t = l.node.image.now.now in
-    (◌≡◌ {A = Held} (R.under t l.inside.levels (R.terms t) l.node.at (l.m - l.counter) l.term.at l.inside.looping (held l.b))
-    (R.under t l.inside.levels (R.terms t) l.node.at l.m (next_at t (first_at t l.node.at)) l.inside.looping (held l.initial.b)))
-    × (l.b.words.ghost_name ≡ l.initial.b.words.ghost_name) × (l.term.image ≡ l.node.image)
+-- what the rounds left make of the builder is what all of them make of it at the start; it holds the words that it was lent, and the next node is of the image
+abbrev pub invariant-terms-loop-term : goal.invariant-terms-loop-term
+invariant-terms-loop-term l =
+    let t = bytes l.node in
+    let it = l.term-iterator in
+    (◌≡◌ {A = Held} (over l.node l.inside.levels terms_behind l.node.at it.left it.next.at l.inside.looping (held l.b))
+    (over l.node l.inside.levels terms_behind l.node.at l.m (next_at t (next_at t (first_at t l.node.at))) l.inside.looping (held l.initial.b)))
+    × (l.b.words.ghost_name ≡ l.initial.b.words.ghost_name) × (it.next.image ≡ l.node.image)
 
-abbrev pub invariant-host-loop : goal.invariant-host-loop
-invariant-host-loop l =
-    let t = l.node.image.now.now in
-    (◌≡◌ {A = Held} (R.under t l.inside.levels (R.host_arguments t) l.node.at l.f l.k (l.m - l.counter) l.argument.at l.inside.looping (held l.b))
-    (R.under t l.inside.levels (R.host_arguments t) l.node.at l.f l.k l.m (first_at t l.node.at) l.inside.looping (held l.initial.b)))
-    × (l.b.words.ghost_name ≡ l.initial.b.words.ghost_name) × (l.argument.image ≡ l.node.image)
+abbrev pub invariant-host-loop-argument : goal.invariant-host-loop-argument
+invariant-host-loop-argument l =
+    let t = bytes l.node in
+    let it = l.argument-iterator in
+    (◌≡◌ {A = Held} (over l.node l.inside.levels arguments_behind l.node.at l.f l.k it.left it.next.at l.inside.looping (held l.b))
+    (over l.node l.inside.levels arguments_behind l.node.at l.f l.k l.m (next_at t (first_at t l.node.at)) l.inside.looping (held l.initial.b)))
+    × (l.b.words.ghost_name ≡ l.initial.b.words.ghost_name) × (it.next.image ≡ l.node.image)
 
 abbrev pub invariant-segs-loop-i : goal.invariant-segs-loop-i
 invariant-segs-loop-i l =
-    let t = l.a.image.now.now in
-    (◌≡◌ {A = Held} (R.under t l.levels (R.arguments t) l.base l.waiting (l.m - l.i) l.argument.at (sum l.first l.i) (held l.b))
-    (R.under t l.levels (R.arguments t) l.base l.waiting l.m l.a.at l.first (held l.initial.b)))
-    × (l.b.words.ghost_name ≡ l.initial.b.words.ghost_name) × (l.argument.image ≡ l.a.image)
+    let i = zip_first l.i-iterator in
+    let it = zip_second l.i-iterator in
+    (◌≡◌ {A = Held} (over l.a l.levels R.arguments l.base l.waiting it.left it.next.at (sum l.first i.start) (held l.b))
+    (over l.a l.levels R.arguments l.base l.waiting l.m l.a.at l.first (held l.initial.b)))
+    × (l.b.words.ghost_name ≡ l.initial.b.words.ghost_name) × (it.next.image ≡ l.a.image)
+    × (i.start + it.left ≡ l.m) × (i.end ≡ l.m)
 
-abbrev pub invariant-statements-loop : goal.invariant-statements-loop
-invariant-statements-loop l =
-    let t = l.node.image.now.now in
-    (◌≡◌ {A = Held} (R.under t l.inside.levels (R.statements_from t) (offset_at t l.node.at) (count_at t l.node.at - l.counter) l.child.at l.inside.looping (held l.b))
-    (R.under t l.inside.levels (R.statements_from t) (offset_at t l.node.at) (count_at t l.node.at) (first_at t l.node.at) l.inside.looping (held l.initial.b)))
-    × (l.b.words.ghost_name ≡ l.initial.b.words.ghost_name) × (l.child.image ≡ l.node.image)
+abbrev pub invariant-statements-loop-child : goal.invariant-statements-loop-child
+invariant-statements-loop-child l =
+    let t = bytes l.node in
+    let it = l.child-iterator in
+    (◌≡◌ {A = Held} (over l.node l.inside.levels R.statements_from (offset_at t l.node.at) it.left it.next.at l.inside.looping (held l.b))
+    (over l.node l.inside.levels R.statements_from (offset_at t l.node.at) (count_at t l.node.at) (first_at t l.node.at) l.inside.looping (held l.initial.b)))
+    × (l.b.words.ghost_name ≡ l.initial.b.words.ghost_name) × (it.next.image ≡ l.node.image)

@@ -1,7 +1,7 @@
 use mathlib.Core.Path.{◌≡◌, sym, ap, ◌∙◌}
 use Prim.Native.Nat.{◌-◌}
 use Rattle.std.specs.Prelude.{Some}
-use Rattle.ast.specs.Node.{count_at, first_at}
+use Rattle.ast.specs.Node.{first_at}
 use Rattle.lowering.specs.Rules.{path_end}
 use Rattle.lowering.proofs.Paths.{ends_here, goes_on}
 use Rattle.lowering.proofs.assign.+path_end.Goals as goal
