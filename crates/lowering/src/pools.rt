@@ -57,7 +57,8 @@ impl<const WIDTH: usize, const KEY: usize> Region<WIDTH, KEY> {
         false
     }
 
-    // How many of `n` entries are passed, eight at a time, with none of that key among them.
+    // How many of `n` entries are passed, eight at a time, with none of that key among them. A `for`: tried `find` over the eights, by which constants are
+    // 7 % slower.
     fn skip(&self, ws: &[u32], n: u16, words: &[u32; WIDTH]) -> u16
         ensures { (result ≤ n) × NoneHas (hit ws.now self.now.from WIDTH (take KEY words.now)) 0 result }
     {
@@ -69,7 +70,8 @@ impl<const WIDTH: usize, const KEY: usize> Region<WIDTH, KEY> {
         8 * (n / 8)
     }
 
-    // The number of the first of `n` entries that has the key of the one given, as `seek` has it; none has the key where `seek` comes to `n`.
+    // The number of the first of `n` entries that has the key of the one given, as `seek` has it; none has the key where `seek` comes to `n`. A `for`:
+    // tried `find` over the range, by which constants are 1.6 % slower.
     fn find(&self, ws: &[u32], n: u16, words: &[u32; WIDTH]) -> Option<u16>
         ensures { Finds (hit ws.now self.now.from WIDTH (take KEY words.now)) n result }
     {
@@ -89,8 +91,8 @@ impl<const WIDTH: usize, const KEY: usize> Region<WIDTH, KEY> {
         let i = *n;
         if i < self.room {
             let at = self.place(i);
-            for j in 0..WIDTH {
-                put_word(ws, at + j, words[j]);
+            for (j, w) in words.iter().enumerate() {
+                put_word(ws, at + j, *w);
             }
             *n = i + 1;
         }
