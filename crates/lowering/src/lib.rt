@@ -279,7 +279,6 @@ fn rhs(b: &mut Builder<'_>, node: Node<'_>, inside: Inside)
 }
 
 // ---- logic
-// `compare` and `equal` differ in instruction, type and what a constant becomes: one function over an enum of both takes 27 lines for 33, and 8 of specs/.
 
 // Two operands with a Push between them, the one at `a` first.
 #[cycle(expression)]
@@ -292,6 +291,7 @@ fn binary(b: &mut Builder<'_>, a: Node<'_>, inside: Inside)
     expr(b, a.next(), inside);
 }
 
+// `compare` and `equal` differ in instruction, type and what a constant becomes: one function over an enum of both takes 27 lines for 33, and 8 of specs/.
 #[cycle(expression)]
 #[tactic(auto, unfolding(crate::specs::Rules::compare))]
 fn compare(b: &mut Builder<'_>, node: Node<'_>, o: Comparison, inside: Inside)
