@@ -1,24 +1,18 @@
 -- What a hit says of the words: it is the decision of any claim that they decide. Assumes nothing.
-use mathlib.Core.Path.{◌≡◌, refl, sym}
-use mathlib.Core.Bool.{Bool, true, false}
+use mathlib.Core.Path.{◌≡◌, refl, ◌∙◌}
+use mathlib.Core.Bool.{true, false}
 use mathlib.Core.List.{List, [], ◌∷◌}
-use Prim.Native.Nat.{ℕ, zero, suc, ◌+◌, ◌*◌, ◌<◌, ◌≤◌}
+use Prim.Native.Nat.{ℕ, zero, suc, ◌+◌, ◌*◌, ◌-◌, ◌<◌}
 use native.Mathlib.Omega.{arith}
 use borrow.Author.Tests.{eqb-true, eq-eqb}
 use lib.Dec.{eqb}
-use lib.ListN.{length, get_or, take}
-use Rattle.std.specs.Bool.{MatchBool}
-use Rattle.std.specs.List.{AllWithin, HoldsAt, range_with_len}
+use lib.ListN.{length, get_or, take, drop}
 use Rattle.std.specs.Cmp.Derive.{both_true}
 use Rattle.std.proofs.Math.Bool.{and-false}
 use Rattle.std.proofs.lemmas.Bool.{and_parts}
-use Rattle.std.proofs.lemmas.List.FromFn.{length-range_with_len, get_or-range_with_len}
+use Rattle.std.proofs.lemmas.List.{drop_more}
 use Rattle.lowering.specs.Search.{stands, hit, word_hit, pair_hit, name_hit, member_hit}
 use Rattle.lowering.proofs.Slots.{same, same_is}
-
--- the number at a place of those from 0 on
-pub same_at : (n j : ℕ) → j < n → get_or (range_with_len 0 n) j 0 ≡ j
-same_at n j l = omega (arith, get_or-range_with_len 0 n j 0 l)
 
 module _ (W : List ℕ) where
   -- the words from a place on, one by one
@@ -44,25 +38,16 @@ module _ (W : List ℕ) where
   stands_false at (suc n) (a ∷ words) zero l m e = let z : at + 0 ≡ at = omega arith in rw (rw z at e)
   stands_false at (suc n) (a ∷ words) (suc j) l m e = let z : at + suc j ≡ at + 1 + j = omega arith in rw (stands_false (at + 1) n words j (omega arith) (omega arith) (rw z at e)) (and-false _)
 
-  all_stand : (at n : ℕ) (words : List ℕ) → n ≤ length words → ((j : ℕ) → j < n → eqb (get_or W (at + j) 0) (get_or words j 0) ≡ true) → stands W at (take n words) ≡ true
-  unfolding stands
-  all_stand at zero words l h = refl
-  all_stand at (suc n) [] l h = absurd (omega arith)
-  all_stand at (suc n) (a ∷ words) l h =
-      let z : at + 0 ≡ at = omega arith in
-      both_true (rw z at (h 0 (omega arith))) (all_stand (at + 1) n words (omega arith) (λ j m. let y : at + suc j ≡ at + 1 + j = omega arith in rw y at (h (suc j) (omega arith))))
+  -- the words compared one by one: those behind the first j decide
+  abbrev pub Stood : ℕ → ℕ → List ℕ → ℕ → Type 0
+  Stood at n words j = stands W at (take n words) ≡ stands W (at + j) (take (n - j) (drop j words))
 
-  -- the words compared one by one: whether each is that of the key
-  pub stood : (at n : ℕ) (words : List ℕ) (r : Bool) → n ≤ length words
-      → MatchBool r (AllWithin (λ j. eqb (get_or W (at + j) 0) (get_or words j 0) ≡ true) (range_with_len 0 n) 0 (length (range_with_len 0 n)))
-      ((k : ℕ) × (k < length (range_with_len 0 n)) × HoldsAt (λ j. eqb (get_or W (at + j) 0) (get_or words j 0) ≡ false) (range_with_len 0 n) k)
-      → r ≡ stands W at (take n words)
-  stood at n words true l h =
-      let z = length-range_with_len 0 n in
-      sym (all_stand at n words l (λ j m. rw (same_at n j m) at (h j 0 (omega arith) (omega (arith, z)))))
-  stood at n words false l h =
-      let m : h.0 < n = omega (arith, length-range_with_len 0 n, h.1) in
-      sym (stands_false at n words h.0 m (omega arith) (rw (same_at n h.0 m) at (h.2 0)))
+  pub stood_on : (at n : ℕ) (words : List ℕ) (j : ℕ) → j < n → j < length words → get_or W (at + j) 0 ≡ get_or words j 0 → Stood at n words j → Stood at n words (j + 1)
+  unfolding stands
+  stood_on at n words j l m e s =
+      let z : at + j + 1 ≡ at + (j + 1) = omega arith in
+      let k : n - j ≡ suc (n - (j + 1)) = omega arith in
+      s ∙ rw (k, drop_more words j 0 m, eq-eqb _ _ e, z)
 
 -- two of them
 abbrev Pair : List ℕ → ℕ → ℕ → ℕ → Type 0

@@ -2,16 +2,13 @@
 use mathlib.Core.Path.{◌≡◌}
 use mathlib.Core.Bool.{Bool, true, false}
 use mathlib.Core.List.{List}
-use Prim.Native.Nat.{ℕ, ◌+◌, ◌-◌, ◌*◌, ◌<◌, ◌≤◌}
+use Prim.Native.Nat.{ℕ, ◌+◌, ◌-◌, ◌*◌, ◌<◌}
 use native.Mathlib.Decide.{dec_lt}
 use native.Mathlib.Nat.{mul-add}
 use native.Mathlib.Omega.{arith}
 use lib.ListN.{length, get_or, take}
-use Rattle.std.specs.Bool.{MatchBool}
-use Rattle.std.specs.List.{HoldsAt, range_with_len}
-use Rattle.std.proofs.lemmas.List.FromFn.{length-range_with_len}
 use Rattle.lowering.specs.Search.{hit, Without, NoneHas}
-use Rattle.lowering.proofs.Hits.{stands_false, same_at}
+use Rattle.lowering.proofs.Hits.{stands_false}
 
 -- what is not true has every consequence
 pub untrue : {A : Type 0} → false ≡ true → A
@@ -32,12 +29,3 @@ key_missed W from width size words j i m l o f k a b =
     let d : i + (k - i) ≡ k = omega arith in
     let e : from + width * i + j + width * (k - i) ≡ from + width * (i + (k - i)) + j = omega (arith, mul-add width i (k - i)) in
     stands_false W (from + width * k) size words j l o (rw d at (rw e at (f (k - i) (omega arith))))
-
--- where a word of the key is in none of the entries, if so answered
-pub any_missed : (W : List ℕ) (from width size : ℕ) (words : List ℕ) (i m at : ℕ) (r : Bool) (No : Type 0) → size ≤ length words → at ≡ from + width * i
-    → MatchBool r ((k : ℕ) × (k < length (range_with_len 0 size)) × HoldsAt (λ j. Without W (at + j) width (get_or words j 0) m) (range_with_len 0 size) k) No
-    → r ≡ true → NoneHas (hit W from width (take size words)) i (i + m)
-any_missed W from width size words i m at true No l e h t =
-    let b : h.0 < size = omega (arith, length-range_with_len 0 size, h.1) in
-    key_missed W from width size words h.0 i m b (omega arith) (rw e at (rw (same_at size h.0 b) at (h.2 0)))
-any_missed W from width size words i m at false No l e h t = untrue t

@@ -1,5 +1,5 @@
 // Entries in regions of a workspace of words: found by key, appended, interned. Past the end a word reads 0, and nothing is written.
-ghost use Rattle.std.specs.Prelude.{◌≡◌, true, ◌+◌, ◌*◌, ◌^◌, ◌<◌, ◌≤◌, take, get_or, eqb};
+ghost use Rattle.std.specs.Prelude.{◌≡◌, true, ◌+◌, ◌*◌, ◌^◌, ◌<◌, ◌≤◌, take};
 ghost use Rattle.std.proofs.lemmas.List.Edits.{sets};
 ghost use Rattle.lowering.specs.Search.{hit, Finds, NoneHas, NoneIs};
 ghost use Rattle.lowering.specs.Regions.{Appends, Interns};
@@ -36,12 +36,12 @@ impl<const WIDTH: usize, const KEY: usize> Region<WIDTH, KEY> {
         ensures { result ≡ hit ws.now self.now.from WIDTH (take KEY words.now) i }
     {
         let at = self.place(i);
-        (0..KEY).all(
-            |j| -> bool
-                requires { (j < WIDTH) × (at < 2 ^ 22) }
-                ensures { result ≡ eqb (get_or ws.entry.now (at + j) 0) (get_or words.entry.now j 0) }
-            { word(ws, at + j) == words[j] },
-        )
+        for j in 0..KEY {
+            if word(ws, at + j) != words[j] {
+                return false;
+            }
+        }
+        true
     }
 
     // Whether eight entries are there, and one word of the key is in none of them.
@@ -49,12 +49,12 @@ impl<const WIDTH: usize, const KEY: usize> Region<WIDTH, KEY> {
         ensures { result ≡ true → NoneHas (hit ws.now self.now.from WIDTH (take KEY words.now)) i (i + 8) }
     {
         let at = self.place(i);
-        (0..KEY).any(
-            |j| -> bool
-                requires { (j < WIDTH) × (at < 2 ^ 20) × (WIDTH < 8) }
-                ensures { NoneIs ws.entry.now (at + j) WIDTH (get_or words.entry.now j 0) result }
-            { none_is::<WIDTH>(ws, at + j, words[j]) },
-        )
+        for j in 0..KEY {
+            if none_is::<WIDTH>(ws, at + j, words[j]) {
+                return true;
+            }
+        }
+        false
     }
 
     // How many of `n` entries are passed, eight at a time, with none of that key among them. A `for`: tried `find` over the eights, by which constants are

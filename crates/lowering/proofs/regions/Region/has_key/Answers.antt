@@ -1,23 +1,24 @@
-use mathlib.Core.Path.{◌≡◌, refl}
-use mathlib.Core.Bool.{Bool, true, false}
-use Prim.Native.Nat.{ℕ, ◌+◌}
+use mathlib.Core.Path.{◌≡◌, sym, ◌∙◌}
+use Prim.Native.Nat.{◌-◌}
 use native.Mathlib.Omega.{arith}
-use borrow.Author.Tests.{tests}
-use lib.Dec.{eqb}
-use lib.ListN.{get_or}
-use Rattle.std.proofs.Common.{rules}
-use Rattle.std.proofs.lemmas.Iterator.{cases_from_all, YieldsList-from_range}
-use Rattle.lowering.specs.Search.{hit}
-use Rattle.lowering.proofs.Hits.{stood}
+use borrow.Author.Tests.{ne_eqb}
+use Rattle.lowering.specs.Search.{stands, hit}
+use Rattle.lowering.proofs.Hits.{stands_false, stood_on}
 use Rattle.lowering.proofs.regions.Region.has_key.Goals as goal
 
-pub returns : goal.returns
+pub returns-then-word-words : goal.returns-then-word-words
 unfolding hit
-returns g c =
+returns-then-word-words g c =
     let w = c.args.self.now.within in
-    let o = c.args.words.now in
-    let s : ℕ → Bool = λ j. eqb (get_or c.args.ws.now (c.place-at.result + j) 0) (get_or o j 0) in
-    rw (← c.place-at.ensures) (
-    stood c.args.ws.now c.place-at.result g.row.KEY o _ (omega arith)
-    (cases_from_all _ _ _ (λ j. s j ≡ true) (λ j. s j ≡ false) c.all.ensures.ran (YieldsList-from_range 0 g.row.KEY g.row.KEY refl (omega arith)) (λ x q k. search (rules, tests)) (λ x q k. search (rules, tests)))
-    )
+    sym (stands_false c.args.ws.now _ _ c.args.words.now c.loop-j.j c.loop-j-test.true (omega arith) (rw (← c.place-at.ensures, ← c.word.ensures) (ne_eqb _ _ c.if-word-words.true)))
+
+pub loop-j-preserved : goal.loop-j-preserved
+loop-j-preserved g c =
+    let w = c.args.self.now.within in
+    stood_on c.args.ws.now _ _ c.args.words.now c.loop-j.j c.loop-j-test.true (omega arith) (sym c.word.ensures ∙ c.if-word-words.false) c.loop-j.invariant
+
+pub returns : goal.returns
+unfolding hit stands
+returns g c =
+    let e : g.row.KEY - c.loop-j.j ≡ 0 = omega arith in
+    sym (rw (← c.place-at.ensures) (rw e at c.loop-j.invariant))
