@@ -31,7 +31,8 @@ impl<const WIDTH: usize, const KEY: usize> Region<WIDTH, KEY> {
         self.from + WIDTH * usize::from(i)
     }
 
-    // Whether an entry has the key of the one given.
+    // Whether an entry has the key of the one given. A `for` here and in `none_has`: tried `all` and `any` over the places, whose closures need clauses of
+    // their own, so that both are longer, with their proofs.
     fn has_key(&self, ws: &[u32], i: u16, words: &[u32; WIDTH]) -> bool
         ensures { result ≡ hit ws.now self.now.from WIDTH (take KEY words.now) i }
     {
