@@ -18,7 +18,7 @@ ghost use Rattle.card.specs.Image.{
 };
 
 use crate::Lowered;
-use crate::fields::{Entries, Words, Writer};
+use crate::fields::{Entries, Run, Words, Writer};
 use program::targets;
 use workspace::layout;
 use workspace::words::{plus, word};
@@ -54,15 +54,9 @@ fn put_instruction(w: u32, a: u32, base: u32, out: &mut Writer<'_>)
 }
 
 // The instructions from `from` on, their targets counted from `base`.
-#[derive(Drop)]
-pub(crate) struct Instructions<'a> {
-    pub(crate) ws: &'a [u32],
-    pub(crate) from: usize,
-    pub(crate) base: u32,
-    ghost near: { from < 2 ^ 40 },
-}
+pub(crate) type Instructions<'a> = Run<'a, 2>;
 
-impl Entries for Instructions<'_> {
+impl Entries for Run<'_, 2> {
     ghost bytes_of = { λ s. instruction_entry s.ws.now s.from s.base };
 
     ghost most = { 8 };
