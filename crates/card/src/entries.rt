@@ -5,12 +5,10 @@
 ghost use Rattle.std.specs.Prelude.{◌≡◌, ◌+◌, ◌*◌, ◌%◌, ◌^◌, ◌≤◌, ◌<◌, get_or};
 ghost use Rattle.workspace.specs.Layout.{TEMPS};
 ghost use Rattle.wire.specs.Bytes.{be8};
-ghost use Rattle.card.specs.Written.{cat};
 ghost use Rattle.card.specs.Puts.{Room, Puts};
 ghost use Rattle.card.specs.Image.{
   instruction_bytes,
   instruction_entry,
-  byte_entry,
   text_bytes,
   dotted_bytes,
   hash_bytes,
@@ -99,31 +97,26 @@ impl Text<'_> {
         wire::get_u8(self.tree, self.at, 0)
     }
 
-    fn letters(self, out: &mut Writer<'_>)
-        requires { Room out.old 255 }
-        ensures { Puts out.old out.new (cat (byte_entry self.entry.tree.now (self.entry.at + 1)) (be8 self.entry.tree.now self.entry.at 0)) 255 }
-    {
-        out.bytes(self.tree, self.at + 1, self.size());
-    }
-
     #[tactic(auto, using(crate::proofs::Join::writing), unfolding(crate::specs::Image::text_bytes))]
     fn put(self, out: &mut Writer<'_>)
         requires { Room out.old 257 }
         ensures { Puts out.old out.new (text_bytes self.entry.tree.now self.entry.at) 257 }
     {
-        out.put(u16::from(self.size()));
-        self.letters(out);
+        let n = self.size();
+        out.put(u16::from(n));
+        out.bytes(self.tree, self.at + 1, n);
     }
 
-    // The same with a dot in front.
+    // The same with a dot in front. The ends are alike and stay: one function for them would read the length again.
     #[tactic(auto, using(crate::proofs::Join::writing), unfolding(crate::specs::Image::dotted_bytes))]
     fn put_dotted(self, out: &mut Writer<'_>)
         requires { Room out.old 258 }
         ensures { Puts out.old out.new (dotted_bytes self.entry.tree.now self.entry.at) 258 }
     {
-        out.put(u16::from(self.size()) + 1);
+        let n = self.size();
+        out.put(u16::from(n) + 1);
         out.put(b'.');
-        self.letters(out);
+        out.bytes(self.tree, self.at + 1, n);
     }
 }
 
