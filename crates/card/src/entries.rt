@@ -1,8 +1,10 @@
 // The sections' entries: what each kind writes for one index. `as` takes a word to a usize, for which there is no `From`.
+// The places of entries are words at the layout's places, as the definitions have them; the lowering's `Region` finds and appends.
 #![tactic(auto, using(crate::proofs::Join::writing))]
 
-ghost use Rattle.std.specs.Prelude.{◌≡◌, ◌+◌, ◌*◌, ◌%◌, ◌^◌, ◌≤◌, ◌<◌};
+ghost use Rattle.std.specs.Prelude.{◌≡◌, ◌+◌, ◌*◌, ◌%◌, ◌^◌, ◌≤◌, ◌<◌, get_or};
 ghost use Rattle.workspace.specs.Layout.{TEMPS};
+ghost use Rattle.wire.specs.Bytes.{be8};
 ghost use Rattle.card.specs.Puts.{Room, Puts};
 ghost use Rattle.card.specs.Image.{
   instruction_bytes,
@@ -18,7 +20,7 @@ ghost use Rattle.card.specs.Image.{
 };
 
 use crate::Lowered;
-use crate::fields::{Entries, Words, Writer};
+use crate::fields::{Entries, Run, Words, Writer};
 use program::targets;
 use workspace::layout;
 use workspace::words::{plus, word};
@@ -54,15 +56,9 @@ fn put_instruction(w: u32, a: u32, base: u32, out: &mut Writer<'_>)
 }
 
 // The instructions from `from` on, their targets counted from `base`.
-#[derive(Drop)]
-pub(crate) struct Instructions<'a> {
-    pub(crate) ws: &'a [u32],
-    pub(crate) from: usize,
-    pub(crate) base: u32,
-    ghost near: { from < 2 ^ 40 },
-}
+pub(crate) type Instructions<'a> = Run<'a, 2>;
 
-impl Entries for Instructions<'_> {
+impl Entries for Run<'_, 2> {
     ghost bytes_of = { λ s. instruction_entry s.ws.now s.from s.base };
 
     ghost most = { 8 };
@@ -74,29 +70,54 @@ impl Entries for Instructions<'_> {
     }
 }
 
-// The text of the tree image whose length byte stands at `o`.
-#[tactic(auto, using(crate::proofs::Join::writing), unfolding(crate::specs::Image::text_bytes))]
-fn put_text(tree: &[u8], o: u32, out: &mut Writer<'_>)
-    requires { Room out.old 257 }
-    ensures { Puts out.old out.new (text_bytes tree.now o) 257 }
-{
-    let k = o as usize;
-    let n = wire::get_u8(tree, k, 0);
-    out.put(u16::from(n));
-    out.bytes(tree, k + 1, n);
+// A text of the tree image: its length byte stands at `at`, its letters behind that.
+#[derive(Clone, Copy, Drop)]
+pub(crate) struct Text<'a> {
+    tree: &'a [u8],
+    at: usize,
+    ghost near: { at < 2 ^ 32 },
 }
 
-// The same with a dot in front.
-#[tactic(auto, using(crate::proofs::Join::writing), unfolding(crate::specs::Image::dotted_bytes))]
-fn put_dotted(tree: &[u8], o: u32, out: &mut Writer<'_>)
-    requires { Room out.old 258 }
-    ensures { Puts out.old out.new (dotted_bytes tree.now o) 258 }
-{
-    let k = o as usize;
-    let n = wire::get_u8(tree, k, 0);
-    out.put(u16::from(n) + 1);
-    out.put(b'.');
-    out.bytes(tree, k + 1, n);
+impl<'a> Lowered<'a> {
+    // The text that the word at `k` names.
+    pub(crate) fn text(self, k: usize) -> Text<'a>
+        ensures { (result.tree.now ≡ self.entry.tree.now) × (result.at ≡ get_or self.entry.ws.now k 0) }
+    {
+        Text {
+            tree: self.tree,
+            at: word(self.ws, k) as usize,
+        }
+    }
+}
+
+impl Text<'_> {
+    pub(crate) fn size(self) -> u8
+        ensures { result ≡ be8 self.entry.tree.now self.entry.at 0 }
+    {
+        wire::get_u8(self.tree, self.at, 0)
+    }
+
+    #[tactic(auto, using(crate::proofs::Join::writing), unfolding(crate::specs::Image::text_bytes))]
+    fn put(self, out: &mut Writer<'_>)
+        requires { Room out.old 257 }
+        ensures { Puts out.old out.new (text_bytes self.entry.tree.now self.entry.at) 257 }
+    {
+        let n = self.size();
+        out.put(u16::from(n));
+        out.bytes(self.tree, self.at + 1, n);
+    }
+
+    // The same with a dot in front. The ends are alike and stay: one function for them would read the length again.
+    #[tactic(auto, using(crate::proofs::Join::writing), unfolding(crate::specs::Image::dotted_bytes))]
+    fn put_dotted(self, out: &mut Writer<'_>)
+        requires { Room out.old 258 }
+        ensures { Puts out.old out.new (dotted_bytes self.entry.tree.now self.entry.at) 258 }
+    {
+        let n = self.size();
+        out.put(u16::from(n) + 1);
+        out.put(b'.');
+        out.bytes(self.tree, self.at + 1, n);
+    }
 }
 
 // A hash: the high word and the low one.
@@ -121,9 +142,8 @@ impl Entries for Names<'_> {
     #[tactic(auto, using(crate::proofs::Join::writing), unfolding(crate::specs::Image::name_bytes))]
     fn put(&self, i: usize, out: &mut Writer<'_>) {
         let k = layout::NAMES + 3 * i;
-        let o = word(self.0.ws, k + 2);
         put_hash(self.0.ws, k, out);
-        put_text(self.0.tree, o, out);
+        self.0.text(k + 2).put(out);
     }
 }
 
@@ -153,11 +173,9 @@ impl Entries for Members<'_> {
     #[tactic(auto, using(crate::proofs::Join::writing), unfolding(crate::specs::Image::member_bytes))]
     fn put(&self, i: usize, out: &mut Writer<'_>) {
         let k = layout::MEMBERS + 6 * i;
-        let o = word(self.0.ws, k + 4);
-        let p = word(self.0.ws, k + 5);
         put_hash(self.0.ws, k, out);
-        put_dotted(self.0.tree, o, out);
-        put_dotted(self.0.tree, p, out);
+        self.0.text(k + 4).put_dotted(out);
+        self.0.text(k + 5).put_dotted(out);
     }
 }
 

@@ -71,16 +71,19 @@ pub(crate) trait Entries {
         ensures { Puts out.old out.new (bytes_of self.now i) most };
 }
 
-// The words from `from` on, `base` added to each.
+// Entries of N words, the first at `from`; `base` is what is added to an entry's place.
 #[derive(Drop)]
-pub(crate) struct Words<'a> {
+pub(crate) struct Run<'a, const N: usize> {
     pub(crate) ws: &'a [u32],
     pub(crate) from: usize,
     pub(crate) base: u32,
     ghost near: { from < 2 ^ 40 },
 }
 
-impl Entries for Words<'_> {
+// The words from `from` on, `base` added to each.
+pub(crate) type Words<'a> = Run<'a, 1>;
+
+impl Entries for Run<'_, 1> {
     ghost bytes_of = { λ s. word_entry s.ws.now s.from s.base };
 
     ghost most = { 4 };

@@ -1,4 +1,4 @@
-// The sections' sizes, counted and not written, and their running sums from the back. `as` takes a word to a usize, for which there is no `From`.
+// The sections' sizes, counted and not written, and their running sums from the back.
 #![tactic(auto, using(crate::proofs::Lengths::lengths))]
 
 ghost use Rattle.std.specs.Prelude.{◌≡◌, ◌+◌, ◌*◌, ◌^◌, ◌≤◌, ◌<◌, length};
@@ -44,23 +44,21 @@ trait Measured: Entries {
 impl Measured for Names<'_> {
     #[tactic(auto, using(crate::proofs::Lengths::lengths), unfolding(crate::specs::Image::name_bytes, crate::specs::Image::text_bytes))]
     fn size(&self, i: usize) -> usize {
-        let o = word(self.0.ws, layout::NAMES + 3 * i + 2);
-        let t = wire::get_u8(self.0.tree, o as usize, 0);
-        NAME + usize::from(t)
+        let t = self.0.text(layout::NAMES + 3 * i + 2);
+        NAME + usize::from(t.size())
     }
 }
 
 impl Measured for Members<'_> {
     #[tactic(auto, using(crate::proofs::Lengths::lengths), unfolding(crate::specs::Image::member_bytes, crate::specs::Image::dotted_bytes))]
     fn size(&self, i: usize) -> usize {
-        let o = word(self.0.ws, layout::MEMBERS + 6 * i + 4);
-        let p = word(self.0.ws, layout::MEMBERS + 6 * i + 5);
-        let t = wire::get_u8(self.0.tree, o as usize, 0);
-        let u = wire::get_u8(self.0.tree, p as usize, 0);
-        MEMBER + usize::from(t) + usize::from(u)
+        let t = self.0.text(layout::MEMBERS + 6 * i + 4);
+        let u = self.0.text(layout::MEMBERS + 6 * i + 5);
+        MEMBER + usize::from(t.size()) + usize::from(u.size())
     }
 }
 
+// Two impls of one trait, two lines each: where the count stands and how long one is differ, and each unfolds its own definition.
 impl Measured for Stores<'_> {
     #[tactic(auto, using(crate::proofs::Lengths::lengths), unfolding(crate::specs::Image::store_bytes))]
     fn size(&self, i: usize) -> usize {
