@@ -19,11 +19,10 @@ use workspace::layout;
 pub fn build(tree: &[u8], workspace: &mut [u32], out: &mut [u8]) -> Result<usize, Refusal>
     ensures { Built tree.now workspace.old out.old workspace.new out.new (shown result) }
 {
-    let small = workspace.len() < layout::WORDS;
-    if small {
+    let Some(ws) = workspace.first_chunk_mut() else {
         return Err(Refusal::SmallWorkspace);
-    }
-    inside(tree, &mut workspace[..layout::WORDS], out)
+    };
+    inside(tree, ws, out)
 }
 
 // The same as one number: the refusal's number * 2^32 + the length. Crate codegen_c exports it to C.
@@ -46,8 +45,7 @@ fn pack(a: Result<usize, Refusal>) -> u64
 
 // Questions 2 to 9 in a workspace of 16,384 words, which is cleared afterwards.
 #[tactic(auto, using(crate::proofs::Outcome::all_zero))]
-fn inside(tree: &[u8], ws: &mut [u32], out: &mut [u8]) -> Result<usize, Refusal>
-    requires { length ws.old ≡ WORDS }
+fn inside(tree: &[u8], ws: &mut [u32; layout::WORDS], out: &mut [u8]) -> Result<usize, Refusal>
     ensures { Asked tree.now out.old out.new (shown result) × (ws.new ≡ zeros) }
 {
     let a = asked(tree, ws, out);
@@ -56,8 +54,7 @@ fn inside(tree: &[u8], ws: &mut [u32], out: &mut [u8]) -> Result<usize, Refusal>
 }
 
 // Questions 2 to 9.
-fn asked(tree: &[u8], ws: &mut [u32], out: &mut [u8]) -> Result<usize, Refusal>
-    requires { WORDS ≤ length ws.old }
+fn asked(tree: &[u8], ws: &mut [u32; layout::WORDS], out: &mut [u8]) -> Result<usize, Refusal>
     ensures { Asked tree.now out.old out.new (shown result) }
 {
     questions::check_image(tree)?;
@@ -65,8 +62,8 @@ fn asked(tree: &[u8], ws: &mut [u32], out: &mut [u8]) -> Result<usize, Refusal>
 }
 
 // Questions 5 to 9, of an image that questions 2 to 4 let pass.
-fn generate(tree: &[u8], ws: &mut [u32], out: &mut [u8]) -> Result<usize, Refusal>
-    requires { (WORDS ≤ length ws.old) × (questions tree.now ≡ 0) }
+fn generate(tree: &[u8], ws: &mut [u32; layout::WORDS], out: &mut [u8]) -> Result<usize, Refusal>
+    requires { questions tree.now ≡ 0 }
     ensures { Asked tree.now out.old out.new (shown result) }
 {
     let s = lowering::lower(tree, ws);
