@@ -5,7 +5,7 @@ ghost use Rattle.answers.specs.Refusals.{number_of, NoRefusal, bytes, text_of, l
 use std::error::Error;
 use std::fmt;
 
-// The number of an answer that refuses nothing.
+// The number of an answer that refuses nothing. A number of its own, since what refuses nothing is no `Refusal`.
 pub const ACCEPTED: u8 = 0;
 
 #[derive(Clone, Copy, Debug, PartialEq, Eq)]
@@ -61,7 +61,7 @@ impl fmt::Display for Refusal {
 
 impl Error for Refusal {}
 
-// A number that is no refusal's.
+// A number that is no refusal's. A type of its own: one for all three would let a byte of one stand for another's.
 #[derive(Clone, Copy, Debug, PartialEq, Eq)]
 pub struct UnknownRefusal(pub u8);
 

@@ -5,9 +5,9 @@ pub const VERSION: u8 = 1;
 // Where the length of all that follows stands, the two setting bytes, and the root node.
 pub const REST: u16 = 1;
 
-pub const ARRAYS: u32 = 5;
+pub const ARRAYS: usize = 5;
 
-pub const DIVISOR: u32 = 6;
+pub const DIVISOR: usize = 6;
 
 pub const ROOT: usize = 7;
 

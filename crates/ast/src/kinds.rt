@@ -18,7 +18,7 @@ pub enum Kind {
     HostMath = 12,
 }
 
-// A number that is no kind's.
+// A number that is no kind's. A type of its own: one for all three would let a byte of one stand for another's.
 #[derive(Clone, Copy, Debug, PartialEq, Eq)]
 pub struct UnknownKind(pub u8);
 

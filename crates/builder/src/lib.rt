@@ -50,7 +50,7 @@ pub struct Builder<'a, R> {
 }
 
 impl<'a, R: Copy + Drop> Builder<'a, R> {
-    // Appends an instruction to the open code.
+    // Appends an instruction to the open code. An instruction's two words, as they stand and as the definitions take them.
     #[tactic(auto, unfolding(crate::specs::Steps::emitted))]
     pub fn emit(&mut self, front: u32, back: u32)
         ensures { Did self.old self.new (emitted front back) }

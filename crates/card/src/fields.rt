@@ -108,8 +108,7 @@ impl Entries for Bytes<'_> {
     ghost most = { 1 };
 
     fn put(&self, i: usize, out: &mut Writer<'_>) {
-        // `as`, since a usize has no `From` into a u32.
-        let b = wire::get_u8(self.tree, self.from, i as u32);
+        let b = wire::get_u8(self.tree, self.from, i);
         out.put(b);
     }
 }

@@ -43,7 +43,7 @@ impl Ends {
 // The first word of a Jump. By `as`: a constant can call no function.
 const JUMP: u32 = Opcode::Jump as u32 * 16777216;
 
-// Appends an instruction to the open code, and gives the place after it.
+// Appends an instruction to the open code, and gives the place after it. An instruction's two words, as they stand and as the definitions take them.
 #[tactic(auto, unfolding(crate::specs::Segments::emitted, crate::specs::Segments::emitted_top))]
 pub fn emit(ws: &mut [u32], top: u16, front: u32, back: u32) -> u16
     ensures { (result ≡ emitted_top top) × (ws.new ≡ emitted ws.old top front back) }
@@ -65,7 +65,8 @@ pub fn set_target(ws: &mut [u32], at: u16, target: u32)
     }
 }
 
-// A Break or Continue that waits becomes a Jump to its loop's end or check.
+// A Break or Continue that waits becomes a Jump to its loop's end or check. How far a place may lie is asked of each sum as it stands: a type for it
+// would be made and taken apart at each step.
 #[tactic(auto, unfolding(crate::specs::Segments::break_resolved))]
 fn resolve_break(ws: &mut [u32], at: usize, ends: Ends)
     requires { at < 4294967296 }
@@ -125,7 +126,7 @@ pub fn resolve_breaks(ws: &mut [u32], from: u16, count: u16, ends: Ends)
     }
 }
 
-// Copies an instruction, `by` added to its target where it has one. `as` cuts a byte that fits: a `try_from` would have a case that never comes.
+// Copies an instruction, `by` added to its target where it has one.
 #[tactic(auto, unfolding(crate::specs::Segments::relocated_one))]
 fn move_one(ws: &mut [u32], from: usize, to: usize, by: u32)
     requires { (from < 4294967296) × (to < 4294967296) }
@@ -133,7 +134,8 @@ fn move_one(ws: &mut [u32], from: usize, to: usize, by: u32)
 {
     let front = word(ws, from);
     let back = word(ws, from + 1);
-    let s = targets::shift((front / 16777216) as u8, by);
+    let [opcode, ..] = front.to_be_bytes();
+    let s = targets::shift(opcode, by);
     put_pair(ws, to, front, plus(back, s));
 }
 

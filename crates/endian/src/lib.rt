@@ -18,6 +18,7 @@ impl Field<1> for u8 {
     ghost number = { λ n. n };
 
     // A test and a store: of a slice's `get_mut` the library says how long the slice stays, and no element.
+    // The workspace's `put_word` is the same of a word: neither crate knows the other, so they are two.
     #[tactic(auto, using(wire::proofs::Numbers::be_one, wire::proofs::Stores::sets_out))]
     fn put(self, out: &mut [u8], at: usize) {
         if at < out.len() {

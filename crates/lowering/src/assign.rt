@@ -1,4 +1,4 @@
-// What an assignment stores to: a variable, a temp, or a member path of a root.
+// What an assignment stores to: a variable, a temp, or a member path of a root. `levels` and the post have nothing in common but their way.
 ghost use Rattle.std.specs.Prelude.{◌≡◌};
 ghost use Rattle.tree.specs.Nodes.{bytes};
 ghost use Rattle.builder.specs.Done.{Did};
@@ -19,7 +19,7 @@ use program::{Flags, PostIdx, StoreIdx};
 use tree::Node;
 use workspace::words::{high, low};
 
-// Where a member path ends: the place of its root, and how many links it has.
+// Where a member path ends: the place of its root, a place, as the definition gives it, and how many links it has.
 #[derive(Drop)]
 pub struct PathEnd {
     pub root: usize,
@@ -80,7 +80,7 @@ fn path_hashes(b: &mut Builder<'_>, node: Node<'_>, levels: u16)
     add_path(b, n.hash);
 }
 
-// The number of a store's root: a variable, a temp, or any other value.
+// The number of a store's root: a variable, a temp, or any other value. No `From`: an `Option` is of another crate, and the workspace's words are numbers.
 fn root_kind(root: Option<VariableIdx>) -> u32
     ensures { result ≡ root_kind root }
 {
@@ -91,7 +91,7 @@ fn root_kind(root: Option<VariableIdx>) -> u32
     }
 }
 
-// The number of its index; 0 where it has none.
+// The number of its index; 0 where it has none. No `From`: an `Option` is of another crate, and the workspace's words are numbers.
 fn root_index(root: Option<VariableIdx>) -> u16
     ensures { result ≡ root_index root }
 {

@@ -8,6 +8,7 @@ ghost use Rattle.lowering.specs.Done.{Gave, GaveVariable};
 ghost use Rattle.lowering.specs.Leaves.{variable};
 ghost use Rattle.lowering.specs.Pools.{konst, post, hash, name, slot, temp, member, text_place, constant};
 
+use crate::steps::flag;
 use crate::{Builder, regions};
 use numeric::{PostBits, PostOp};
 use payload::{NameRef, Payload, payload_of};
@@ -97,16 +98,16 @@ pub(crate) fn post_of(b: &mut Builder<'_>, p: PostOp, bits: PostBits) -> PostIdx
 }
 
 // A temp: its name first, then its slot; the program uses temps.
-#[tactic(auto, unfolding(crate::specs::Pools::temp))]
+#[tactic(auto, unfolding(crate::specs::Pools::temp, crate::specs::Steps::flagged))]
 pub(crate) fn temp(b: &mut Builder<'_>, n: NameRef) -> TempIdx
     ensures { Gave b.old b.new result.0 (temp n) }
 {
     let named = name(b, n);
-    b.state.flags |= Flags::USES_TEMPS;
+    flag(b, Flags::USES_TEMPS);
     slot(b, named)
 }
 
-// The index of a variable or a temp.
+// The index of a variable or a temp. Two cases with an index each, for which the library has no shape.
 #[derive(Clone, Copy, Drop)]
 pub enum VariableIdx {
     Name(NameIdx),

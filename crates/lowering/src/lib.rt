@@ -332,7 +332,8 @@ fn equal(b: &mut Builder<'_>, node: Node<'_>, o: Equality, inside: Inside)
     pop(b, 1);
 }
 
-// `&&` and `||`; every operand but the last can lead behind the last.
+// `&&` and `||`; every operand but the last can lead behind the last. `step` and `last` are given at one place each: an enum of two would want both as
+// functions of it.
 #[cycle(expression)]
 #[tactic(auto, unfolding(crate::specs::Rules::logic))]
 fn logic(b: &mut Builder<'_>, node: Node<'_>, step: Opcode, last: Opcode, inside: Inside)

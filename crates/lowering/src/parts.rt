@@ -17,7 +17,8 @@ use tree::Node;
 fn front(op: Opcode, sub: u8, b: u16) -> u32
     ensures { result ≡ front (number_of op) sub b }
 {
-    u32::from(u8::from(op)) * 16777216 + u32::from(sub) * 65536 + u32::from(b)
+    let [high, low] = b.to_be_bytes();
+    u32::from_be_bytes([u8::from(op), sub, high, low])
 }
 
 // An instruction of these fields; a Push that waits comes first. The sub is a number: a comparison's, a divisor's, or a count of arguments.
@@ -28,7 +29,7 @@ pub(crate) fn instr(b: &mut Builder<'_>, op: Opcode, sub: u8, a: u32, post: Post
     b.put(front(op, sub, post.0), a);
 }
 
-// The patterns of the node's post.
+// The patterns of the node's post. No `From`: both types are of other crates.
 pub(crate) fn bits_of(node: Node<'_>) -> PostBits
     ensures { patterns result ≡ post_bits (bytes node.entry) node.entry.at }
 {

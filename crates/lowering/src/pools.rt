@@ -23,6 +23,7 @@ fn none_is<const WIDTH: usize>(ws: &[u32], at: usize, key: u32) -> bool
     !some
 }
 
+// The words and the key go side by side: `append` and `intern` change the words, so no one value holds both.
 impl<const WIDTH: usize, const KEY: usize> Region<WIDTH, KEY> {
     // The place of an entry.
     fn place(&self, i: u16) -> usize

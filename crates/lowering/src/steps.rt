@@ -1,4 +1,4 @@
-// Steps beside the workspace's words: the depth counters, the flags.
+// Steps beside the workspace's words: the depth counters, the flags. Each by itself, as depth's cores: a rule of the project names them.
 ghost use Rattle.builder.specs.Done.{Did};
 ghost use Rattle.builder.specs.Steps.{still};
 ghost use Rattle.lowering.specs.Steps.{operand_entered, popped, loop_entered, loop_left, handler_entered, handler_left, flagged, not_float_only, queried};

@@ -9,7 +9,7 @@ ghost use Rattle.numeric.specs.PostOp.{patterns, post_of, patterns_of, identity_
 
 use std::num::{f32_from_bits_with_nan, f32_to_bits_with_nan};
 
-// The bit pattern of a float; a NaN's is 7FC00000.
+// The bit pattern of a float; a NaN's is 7FC00000. A public name over the library's function.
 pub fn bits_of(x: f32) -> u32
     ensures { result ≡ to_bits binary32 x }
 {
@@ -57,6 +57,7 @@ impl PostOp {
     }
 }
 
+// Each `from`, this and the next, is its trait's.
 impl From<PostBits> for PostOp {
     ghost from_gives = { λ bits p. p ≡ post_of (patterns bits) };
 

@@ -8,7 +8,7 @@ ghost use Rattle.tree.specs.Nodes.{bytes};
 use ast::kinds::Kind;
 use tree::Node;
 
-// A name: its hash, and where its text lies in the image.
+// A name: its hash, and where its text lies in the image. `len` is public; nothing here reads it.
 #[derive(Clone, Copy, Drop)]
 pub struct NameRef {
     pub hash: u64,

@@ -57,20 +57,15 @@ impl Depths {
     pub const TEMPS: u16 = 8;
 
     // Whether a program of these depths, with so many temps, can run on the float loop.
+    #[tactic(auto, unfolding(crate::specs::Kinds::in_float_loop))]
     pub fn in_float_loop(self, temps: u16) -> bool
         ensures { result ≡ in_float_loop self.stack self.loops self.handlers temps }
     {
         let most = Depths::FLOAT_LOOP;
-        if self.stack > most.stack {
-            return false;
-        }
-        if self.loops > most.loops {
-            return false;
-        }
-        if self.handlers > most.handlers {
-            return false;
-        }
-        temps <= Depths::TEMPS
+        self.stack <= most.stack
+            && self.loops <= most.loops
+            && self.handlers <= most.handlers
+            && temps <= Depths::TEMPS
     }
 }
 

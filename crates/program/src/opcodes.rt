@@ -63,7 +63,7 @@ impl From<Opcode> for u8 {
     }
 }
 
-// A number that is no opcode's.
+// A number that is no opcode's. A type of its own: one for all three would let a byte of one stand for another's.
 #[derive(Clone, Copy, Debug, PartialEq, Eq)]
 pub struct UnknownOpcode(pub u8);
 

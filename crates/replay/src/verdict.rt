@@ -57,7 +57,7 @@ fn compared(tree: &[u8], refusal: u32, image: &[u8]) -> Option<Difference> {
     byte(&out, image)
 }
 
-// The refusal's number; 0 where the tree is accepted.
+// The refusal's number; 0 where the tree is accepted. A number, as the list has it.
 fn refusal_of(answer: Result<usize, Refusal>) -> u32 {
     match answer {
         Ok(_) => 0,

@@ -6,8 +6,8 @@ ghost use Rattle.std.specs.Iterator.{at_most};
 ghost use Rattle.wire.specs.Bytes.{reach};
 ghost use Rattle.ast.specs.Rules.{rule_of};
 ghost use Rattle.ast.specs.Kinds.{KindOf};
-ghost use Rattle.ast.specs.Node.{len_at, op_at, scale_at, offset_at, kind_at, size_at, count_at, first_at, next_at};
-ghost use Rattle.tree.specs.Nodes.{bytes, first_child, Walks};
+ghost use Rattle.ast.specs.Node.{len_at, op_at, scale_at, offset_at, kind_at, size_at, count_at};
+ghost use Rattle.tree.specs.Nodes.{bytes, first_child, next_node, Walks};
 
 use ast::kinds::{Kind, UnknownKind};
 
@@ -58,14 +58,14 @@ impl<'a> Node<'a> {
         wire::get_u32(*self.image, self.at, 0)
     }
 
-    // The operator code.
+    // The operator code. A number, as the table has it: a code may have no rule.
     pub fn op(self) -> u8
         ensures { result ≡ op_at (bytes self.entry) self.entry.at }
     {
         wire::get_u8(*self.image, self.at, 4)
     }
 
-    // The operator's rule.
+    // The operator's rule. A number, as the table has it: a code may have no rule.
     pub fn rule(self) -> u8
         ensures { result ≡ rule_of (op_at (bytes self.entry) self.entry.at) }
     {
@@ -93,7 +93,7 @@ impl<'a> Node<'a> {
         Kind::try_from(wire::get_u8(*self.image, self.at, 13))
     }
 
-    // What begins `k` bytes behind, or at the end.
+    // What begins `k` bytes behind, or at the end. No invariant for the place, here and in `first` and `next`: a root may lie past a short image.
     pub fn behind(self, k: usize) -> Node<'a>
         ensures { (result ≡ record { image = self.entry.image; at = reach (bytes self.entry) self.entry.at k }) × (result.at ≤ length (bytes self.entry)) }
     {
@@ -128,14 +128,14 @@ impl<'a> Node<'a> {
 
     // The first child.
     pub fn first(self) -> Node<'a>
-        ensures { (result ≡ record { image = self.entry.image; at = first_at (bytes self.entry) self.entry.at }) × (result.at ≤ length (bytes self.entry)) }
+        ensures { (result ≡ first_child self.entry) × (result.at ≤ length (bytes self.entry)) }
     {
         self.behind(16 + usize::from(self.size()))
     }
 
     // What stands behind the node. A usize has no `From` of a u32, so `as` widens it.
     pub fn next(self) -> Node<'a>
-        ensures { (result ≡ record { image = self.entry.image; at = next_at (bytes self.entry) self.entry.at }) × (result.at ≤ length (bytes self.entry)) }
+        ensures { (result ≡ next_node self.entry) × (result.at ≤ length (bytes self.entry)) }
     {
         self.behind(4 + (self.length() as usize))
     }

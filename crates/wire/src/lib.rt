@@ -5,12 +5,12 @@ ghost use Rattle.std.specs.Prelude.{◌≡◌, ℕ, ◌+◌, get_or, IfSome};
 ghost use Rattle.wire.specs.Bytes.{be8, be16, be32, be64};
 ghost use Rattle.wire.specs.Reads.{AreAt};
 
-// The byte at `p + k`. `as`, since a u32 has no `From` into a usize.
-pub fn get_u8(s: &[u8], p: usize, k: u32) -> u8
+// The byte at `p + k`.
+pub fn get_u8(s: &[u8], p: usize, k: usize) -> u8
     ensures { result ≡ be8 s.now p k }
 {
     s.get(p..)
-        .and_then(|rest| rest.get(k as usize))
+        .and_then(|rest| rest.get(k))
         .copied()
         .unwrap_or(0)
 }

@@ -10,6 +10,7 @@ pub fn word(ws: &[u32], at: usize) -> u32
 }
 
 // A test and a store: of a slice's `get_mut` the library says how long the slice stays, and no element.
+// A byte's `put` in endian is the same: neither crate knows the other, so they are two.
 pub fn put_word(ws: &mut [u32], at: usize, w: u32)
     ensures { ws.new ≡ set ws.old at w }
 {
