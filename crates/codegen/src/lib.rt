@@ -1,9 +1,8 @@
 // The generator: a tree image to its program image, over a lent workspace.
 #![tactic(auto)]
 
-ghost use Rattle.std.specs.Prelude.{◌≡◌, cond, ◌≤◌, length};
+ghost use Rattle.std.specs.Prelude.{◌≡◌, cond};
 ghost use Rattle.std.specs.Int.Bits.{bit_and};
-ghost use Rattle.workspace.specs.Layout.{WORDS};
 ghost use Rattle.ast.specs.Questions.{questions};
 ghost use Rattle.program.specs.Kinds.{NOT_FLOAT};
 ghost use Rattle.representation.specs.Sections.{sections_of};
