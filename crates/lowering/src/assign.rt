@@ -19,7 +19,7 @@ use program::{Flags, PostIdx, StoreIdx};
 use tree::Node;
 use workspace::words::{high, low};
 
-// Where a member path ends: the place of its root, a place, as the definition gives it, and how many links it has.
+// Where a member path ends: its root, a place, as the definition gives it; and how many links it has.
 #[derive(Drop)]
 pub struct PathEnd {
     pub root: usize,
