@@ -1,0 +1,100 @@
+// Fewer card pages: up to 32 program images on pages of 4,096 bytes, by a search with a budget. Nothing of Molang stands here.
+#![tactic(auto)]
+
+mod order;
+mod search;
+mod state;
+
+ghost use Rattle.std.specs.Prelude.{◌≡◌, ◌-◌, ◌≤◌, length};
+ghost use Rattle.pages.specs.Answer.{needed, small, shown, answer};
+ghost use Rattle.pages.specs.Search.{best, steps};
+
+use order::order_of;
+use state::{Search, State};
+
+// The most images of a list, and the bytes of a page, which are the most of an image.
+pub const IMAGES: usize = 32;
+
+pub const PAGE: u16 = 4096;
+
+// Why a list is refused.
+#[derive(Clone, Copy, Debug, PartialEq, Eq)]
+pub enum BadList {
+    TooManyImages,
+    ImageTooLarge,
+}
+
+// The page of each image, in list order, and 0 behind the last; how many pages; the steps taken; the pages above the total size divided by a page, rounded up.
+#[derive(Clone, Copy, Drop)]
+pub struct Packing {
+    pub pages: [u8; IMAGES],
+    pub opened: u8,
+    pub steps: u64,
+    pub above: u8,
+}
+
+fn is_small(sizes: &[u16]) -> bool
+    ensures { result ≡ small sizes.now }
+{
+    sizes.iter().all(|size| *size <= PAGE)
+}
+
+// The total size divided by a page, rounded up.
+fn pages_needed(sizes: &[u16]) -> u32
+    requires { length sizes.now ≤ 32 }
+    ensures { result ≡ needed sizes.now }
+{
+    let total: u32 = sizes.iter().map(|size| u32::from(*size)).sum();
+    total.div_ceil(u32::from(PAGE))
+}
+
+// The search from nothing placed: the best packing met, and the steps taken.
+fn searched(sizes: &[u16], budget: u64) -> (State, u64)
+    requires { length sizes.now ≤ 32 }
+    ensures { result ≡ (best sizes.now budget, steps sizes.now budget) }
+{
+    let mut search = Search::new(order_of(sizes), sizes.len());
+    if sizes.is_empty() {
+        return (search.best, 0);
+    }
+    let taken = search.search(0, budget);
+    (search.best, taken)
+}
+
+// The first packing met with the fewest pages, the start included, in at most `budget` steps.
+pub fn pack(sizes: &[u16], budget: u64) -> Result<Packing, BadList>
+    ensures { shown sizes.now result ≡ answer sizes.now budget }
+{
+    if IMAGES < sizes.len() {
+        return Err(BadList::TooManyImages);
+    }
+    if !is_small(sizes) {
+        return Err(BadList::ImageTooLarge);
+    }
+    let (best, steps) = searched(sizes, budget);
+    let pages = best.pages;
+    Ok(Packing {
+        pages,
+        opened: best.opened,
+        steps,
+        above: best.opened - pages_needed(sizes) as u8,
+    })
+}
+
+#[cfg(test)]
+mod tests {
+    use crate::pack;
+    use std::io;
+
+    #[test]
+    fn the_search_beats_the_start(rt: HostRuntime) -> io::Result<()> {
+        let sizes = [1700, 1700, 1190, 1190, 1190, 1190];
+        for budget in [0, 1, 28, 29, 205, 1000] {
+            match pack(&sizes, budget) {
+                Ok(p) => println!(rt; "{budget}: {:?} {} {} {}", p.pages, p.opened, p.steps, p.above)?,
+                Err(_) => println!(rt; "bad")?,
+            }
+        }
+        Ok(())
+    }
+}
