@@ -1,0 +1,3 @@
+pub mod Insert
+pub mod Rooms
+pub mod Turns
