@@ -1,3 +1,4 @@
 pub mod Insert
 pub mod Rooms
 pub mod Turns
+pub mod Whole

@@ -20,7 +20,7 @@ goes_on free s p n l r =
 pub one_more : (o : List Image) (i n : ℕ) (st new : State) (a d : Image) (p : ℕ) → i < n → n ≤ length o
     → a ≡ get_or o i d → p ≡ first_room st.free a.size 0 st.opened → new ≡ put a p st → started (drop i (take n o)) st ≡ started (drop (i + 1) (take n o)) new
 unfolding started
-one_more o i n st new a d p l f is at goes = rw (slice-cons i n o d l f, add-one i, ← is, ← at, goes)
+one_more o i n st new a d p l f is at goes = rw (slice-cons i n o d l f, add-one i, goes, at, is)
 
 pub none_left : (o : List Image) (n : ℕ) (st : State) → started (drop n (take n o)) st ≡ st
 unfolding started

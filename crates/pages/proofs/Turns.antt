@@ -35,7 +35,7 @@ pub fewest_append : (m : State) (ss ts : List State) → fewest m (ss ++ ts) ≡
 fewest_append m [] ts = refl
 fewest_append m (s ∷ ss) ts = fewest_append (better m s) ss ts
 
-take_none : (n : ℕ) → take {A = Visit} n [] ≡ []
+pub take_none : (n : ℕ) → take {A = Visit} n [] ≡ []
 take_none zero = refl
 take_none (suc n) = refl
 
