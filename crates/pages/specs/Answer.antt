@@ -30,9 +30,13 @@ packed xs budget = record {
   above = (best xs budget).opened - needed xs;
 }
 
+-- the number of the refusal
+abbrev pub REFUSED : ℕ
+REFUSED = 19
+
 -- "more than 32 images, or one above 4,096 bytes, gives 19, with an empty packing and both numbers 0"
 unfoldable pub refused : Answer
-refused = record { number = 19; pages = []; opened = 0; steps = 0; above = 0 }
+refused = record { number = REFUSED; pages = []; opened = 0; steps = 0; above = 0 }
 
 unfoldable pub answer : List ℕ → ℕ → Answer
 answer xs budget = cond (leb (length xs) 32 && small xs) (packed xs budget) refused

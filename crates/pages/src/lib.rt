@@ -6,10 +6,12 @@ mod search;
 mod state;
 
 ghost use Rattle.std.specs.Prelude.{◌≡◌, ◌-◌, ◌≤◌, length};
-ghost use Rattle.pages.specs.Answer.{needed, small, shown, answer};
+ghost use Rattle.pages.specs.Answer.{REFUSED, needed, small, shown, answer};
 ghost use Rattle.pages.specs.Search.{best, steps};
 
 use order::order_of;
+use std::error::Error;
+use std::fmt;
 use state::{Search, State};
 
 // The most images of a list, and the bytes of a page, which are the most of an image.
@@ -23,6 +25,26 @@ pub enum BadList {
     TooManyImages,
     ImageTooLarge,
 }
+
+impl BadList {
+    // The refusal's number, which both have.
+    pub fn number(self) -> u8
+        ensures { result ≡ REFUSED }
+    {
+        19
+    }
+}
+
+impl fmt::Display for BadList {
+    fn fmt<W: fmt::Write>(&self, f: &mut fmt::Formatter<W>) -> fmt::Result {
+        f.write_str(match self {
+            BadList::TooManyImages => "more than 32 images",
+            BadList::ImageTooLarge => "an image of more than 4,096 bytes",
+        })
+    }
+}
+
+impl Error for BadList {}
 
 // The page of each image, in list order, and 0 behind the last; how many pages; the steps taken; the pages above the total size divided by a page, rounded up.
 #[derive(Clone, Copy, Drop)]
