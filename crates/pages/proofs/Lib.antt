@@ -1,3 +1,4 @@
 pub mod Sums
 pub mod Budget
 pub mod Least
+pub mod Sorted
