@@ -2,3 +2,4 @@ pub mod Sums
 pub mod Budget
 pub mod Least
 pub mod Sorted
+pub mod Packed
