@@ -121,3 +121,146 @@ pub first_fits : (free : List ℕ) (s p q e : ℕ) → p + q ≡ e → s ≤ get
 unfolding first_room
 first_fits free s p zero e z h = let y : p ≡ e = omega arith in rw y (omega arith, h)
 first_fits free s p (suc q) e z h = grind (arith, nat_tests, first_fits free s (suc p) q e (omega arith) h)
+
+-- a list of images in the order of the search
+pub record Fit (o : List Image) : Type 0 where
+  pub once : (j : ℕ) → over (one j) o ≤ 1
+  pub low : Each (λ a. (a.index < 32) × (a.size ≤ 4096)) o
+  pub few : length o ≤ 32
+
+-- a state of the search: the first images are placed, and these are left
+pub record Good (o left : List Image) (st : State) : Type 0 where
+  pub done : List Image
+  pub split : o ≡ done ++ left
+  pub placed : Placed done st
+
+module _ (o : List Image) (fit : Fit o) where
+  all_placed : (st : State) → Good o [] st → Placed o st
+  all_placed st g = let e : o ≡ g.done = g.split ∙ append-nil g.done in rw e g.placed
+
+  module _ (a : Image) (left : List Image) (st : State) (g : Good o (a ∷ left) st) where
+    is_low : (a.index < 32) × (a.size ≤ 4096)
+    is_low = each_middle _ g.done a left (rw g.split at fit.low)
+
+    is_new : over (one a.index) g.done ≡ 0
+    unfolding over
+    is_new =
+        let c : over (one a.index) g.done + (one a.index a + over (one a.index) left) ≤ 1 = rw (g.split, over_append) at (fit.once a.index) in
+        let d : over (one a.index) g.done + (1 + over (one a.index) left) ≤ 1 = rw (eq-eqb a.index a.index refl) at c in
+        omega arith
+
+    -- the page behind the open ones has room
+    pub room_behind : a.size ≤ get_or st.free st.opened 0
+    room_behind =
+        let l : st.opened < 32 = omega (arith, opens_length (λ j. get_or st.pages j 0) g.done 0 st.opened g.placed.opens, ap length g.split, length-append g.done (a ∷ left), fit.few) in
+        omega (arith, g.placed.fresh st.opened (omega arith) l, is_low)
+
+    good_put : (p : ℕ) → p ≤ st.opened → a.size ≤ get_or st.free p 0 → Good o left (put a p st)
+    good_put p l h = record {
+      done = g.done ++ a ∷ [];
+      split = g.split ∙ sym (append_assoc g.done (a ∷ []) left);
+      placed = placed_more g.done a p st g.placed (others a.index g.done is_new) is_low.0 l h;
+    }
+
+    -- the first page with room
+    pub first_good : Good o left (put a (first_room st.free a.size 0 st.opened) st)
+    first_good = let f = first_fits st.free a.size 0 st.opened st.opened (omega arith) room_behind in good_put (first_room st.free a.size 0 st.opened) f.0 f.1
+
+  started_placed : (left : List Image) (st : State) → Good o left st → Placed o (started left st)
+  unfolding started
+  started_placed [] st g = all_placed st g
+  started_placed (a ∷ left) st g = started_placed left (put a (first_room st.free a.size 0 st.opened) st) (first_good a left st g)
+
+  -- every step of the search
+  abbrev GoodVisit : Visit → Type 0
+  GoodVisit v = Good o v.left v.state
+
+  tried_good : (c : Bool) (below : State → List Visit) (left : List Image) (st : State) → (c ≡ true → Good o left st) → ((s : State) → Good o left s → Each GoodVisit (below s))
+      → Each GoodVisit (tried c below left st)
+  unfolding tried
+  tried_good false below left st h k = tt
+  tried_good true below left st h k = (h refl, k st (h refl))
+
+  pages_good : (a : Image) (left : List Image) (st : State) (p q : ℕ) → ((s : State) → Good o left s → Each GoodVisit (visits left s)) → Good o (a ∷ left) st → p + q ≡ st.opened + 1
+      → Each GoodVisit (flat_map (λ p. tried (has_room a p st) (visits left) left (put a p st)) (range_with_len p q))
+  pages_good a left st p zero k g e = tt
+  pages_good a left st p (suc q) k g e =
+      each_append _ _ _
+      (tried_good (has_room a p st) (visits left) left (put a p st) (λ t. good_put a left st g p (omega arith) (leb-true a.size (get_or st.free p 0) t)) k)
+      (pages_good a left st (p + 1) q k g (omega arith))
+
+  visits_good : (left : List Image) (st : State) → Good o left st → Each GoodVisit (visits left st)
+  unfolding visits
+  visits_good [] st g = tt
+  visits_good (a ∷ left) st g = pages_good a left st 0 (st.opened + 1) (λ s h. visits_good left s h) g (omega arith)
+
+  ended_placed : (left : List Image) (st : State) (ss : List State) → Good o left st → Each (Placed o) ss → Each (Placed o) (ended left st ss)
+  unfolding ended
+  ended_placed [] st ss g h = (all_placed st g, h)
+  ended_placed (a ∷ left) st ss g h = h
+
+  packings_placed : (vs : List Visit) → Each GoodVisit vs → Each (Placed o) (packings vs)
+  unfolding packings
+  packings_placed [] h = tt
+  packings_placed (v ∷ vs) h = ended_placed v.left v.state (packings vs) h.0 (packings_placed vs h.1)
+
+-- the best of some packings is one of them
+fewest_keeps : (P : State → Type 0) (m : State) (ss : List State) → P m → Each P ss → P (fewest m ss)
+fewest_keeps P m [] h k = h
+fewest_keeps P m (s ∷ ss) h k = fewest_keeps P (better m s) ss (cond_both _ s m P (λ _. k.0) (λ _. h)) k.1
+
+all_left : (n p : ℕ) → get_or (replicate n 4096) p 0 ≤ 4096
+all_left zero p = omega arith
+all_left (suc n) zero = omega arith
+all_left (suc n) (suc p) = all_left n p
+
+image_once : (j n : ℕ) → upto (λ p. cond (eqb j p) 1 0) n ≤ 1
+image_once j n = grind (arith, upto_one j 1 n, upto_out j 1 n)
+
+module _ (xs : List ℕ) (few : length xs ≤ 32) (low : (j : ℕ) → get_or xs j 0 ≤ 4096) where
+  pub order_fit : Fit (order xs)
+  order_fit = record {
+    once = λ j. omega (arith, over_ordered (one j) xs (length xs), image_once j (length xs));
+    low = order_each (λ a. (a.index < 32) × (a.size ≤ 4096)) xs (λ j l. (omega arith, low j));
+    few = omega (arith, length_order xs);
+  }
+
+  pub empty_good : Good (order xs) (order xs) empty
+  unfolding over Opens
+  empty_good = record {
+    done = [];
+    split = refl;
+    placed = record { long = length-replicate {A = ℕ} 32 0; room = λ p. omega (arith, all_left 32 p); opens = refl; fresh = λ p l h. get_or-replicate 32 p 4096 0 h };
+  }
+
+  start_placed : Placed (order xs) (start xs)
+  start_placed = started_placed (order xs) order_fit (order xs) empty empty_good
+
+  met_placed : (b : ℕ) → Each (Placed (order xs)) (met xs b)
+  met_placed b =
+      let G : Visit → Type 0 = GoodVisit (order xs) order_fit in
+      let all = All-from_recursion G (all_visits xs) (visits_good (order xs) order_fit (order xs) empty empty_good) in
+      packings_placed (order xs) order_fit _ (recursion_from_All G _ (All-take G b (all_visits xs) all))
+
+  best_placed : (b : ℕ) → Placed (order xs) (best xs b)
+  best_placed b = fewest_keeps (Placed (order xs)) (start xs) (met xs b) start_placed (met_placed b)
+
+  -- pages that are those of a state in which all images are placed
+  placed_packs : (at : List ℕ) (st : State) → ((j : ℕ) → j < length xs → get_or st.pages j 0 ≡ get_or at j 0) → Placed (order xs) st → Packed xs at st.opened
+  placed_packs at st e h =
+      let old : ℕ → ℕ = λ j. get_or st.pages j 0 in
+      let opens = opens_same old (λ j. get_or at j 0) (order xs) 0 st.opened (order_each _ xs e) h.opens in
+      record {
+        packs = record {
+          within = each_order (λ a. get_or at a.index 0 < st.opened) xs (opens_within (λ j. get_or at j 0) (order xs) 0 st.opened opens);
+          room = λ p. omega (arith, h.room p, over_ordered (bytes old p) xs (length xs),
+              upto_same (part xs old p) (part xs (λ j. get_or at j 0) p) (length xs) (λ j l. ap (λ (m : ℕ). cond (eqb m p) (get_or xs j 0) 0) (e j l)));
+        };
+        opens = opens;
+      }
+
+-- Each page of a packing has an image.
+pub no_page_empty : (xs at : List ℕ) (k : ℕ) → Packed xs at k → (p : ℕ) → p < k → (j : ℕ) × (j < length xs) × (get_or at j 0 ≡ p)
+no_page_empty xs at k h p l =
+    let y = opens_used (λ j. get_or at j 0) (λ a. a.index < length xs) (order xs) p 0 k (order_each _ xs (λ j n. n)) h.opens (omega arith) l in
+    (y.0.index, y.1, y.2)
