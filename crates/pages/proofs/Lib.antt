@@ -3,3 +3,4 @@ pub mod Budget
 pub mod Least
 pub mod Sorted
 pub mod Packed
+pub mod First
