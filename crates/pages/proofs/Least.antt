@@ -23,6 +23,6 @@ above_by true xs b k h = omega arith
 above_by false xs b k h = omega arith
 
 -- No packing of these images has fewer pages than ours less `above`.
-pub no_packing_below : (xs : List ℕ) (b : ℕ) (page : ℕ → ℕ) (k : ℕ) → Packs xs page k → (answer xs b).opened ≤ k + (answer xs b).above
+pub none_below : (xs : List ℕ) (b : ℕ) (page : ℕ → ℕ) (k : ℕ) → Packs xs page k → (answer xs b).opened ≤ k + (answer xs b).above
 unfolding answer
-no_packing_below xs b page k h = above_by (leb (length xs) 32 && small xs) xs b k (least xs page k h)
+none_below xs b page k h = above_by (leb (length xs) 32 && small xs) xs b k (least xs page k h)

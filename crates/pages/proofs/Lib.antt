@@ -4,3 +4,5 @@ pub mod Least
 pub mod Sorted
 pub mod Packed
 pub mod First
+pub mod Refused
+pub mod Theorems

@@ -1,5 +1,5 @@
 -- Every packing that the search meets, and the start, is a packing. Assumes nothing.
-use Rattle.std.proofs.Common.{◌≡◌, ◌≢◌, refl, sym, ap, ◌∙◌, Bool, true, false, cond, List, [], ◌∷◌, ◌++◌, append_assoc, append-nil, ℕ, zero, suc, ◌+◌, ◌-◌, ◌≤◌, ◌<◌, max, arith, length, get_or, set, take, replicate, eqb, leb, leb-true, eq-eqb, add-one, length-append, length-set, get_or-set_same, get_or-set_other}
+use Rattle.std.proofs.Common.{◌≡◌, ◌≢◌, refl, sym, ap, ◌∙◌, Bool, true, false, cond, List, [], ◌∷◌, ◌++◌, append_assoc, append-nil, ℕ, zero, suc, ◌+◌, ◌-◌, ◌≤◌, ◌<◌, max, arith, length, get_or, set, take, replicate, eqb, leb, leb-true, eq-eqb, add-one, length-append, length-set, get_or-set_same, get_or-set_other, get_or-take, length-take-le}
 use Rattle.std.specs.List.{range_with_len, flat_map, AllByRecursion as Each}
 use Rattle.std.proofs.lemmas.Bool.{cond_both}
 use Rattle.std.proofs.lemmas.Bool.Decides.{nat_tests}
@@ -258,6 +258,16 @@ module _ (xs : List ℕ) (few : length xs ≤ 32) (low : (j : ℕ) → get_or xs
         };
         opens = opens;
       }
+
+  -- each packing met, and the start
+  pub each_packs : (b : ℕ) → Each (λ st. Packed xs st.pages st.opened) (start xs ∷ met xs b)
+  each_packs b = each_weaker (Placed (order xs)) _ (λ st h. placed_packs st.pages st (λ j l. refl) h) (start xs ∷ met xs b) (start_placed, met_placed b)
+
+  pub best_packs : (b : ℕ) → Packed xs (take (length xs) (best xs b).pages) (best xs b).opened
+  best_packs b = placed_packs _ (best xs b) (λ j l. sym (get_or-take (length xs) (best xs b).pages j 0 l)) (best_placed b)
+
+  pub best_listed : (b : ℕ) → length (take (length xs) (best xs b).pages) ≡ length xs
+  best_listed b = length-take-le (length xs) (best xs b).pages (omega (arith, (best_placed b).long))
 
 -- Each page of a packing has an image.
 pub no_page_empty : (xs at : List ℕ) (k : ℕ) → Packed xs at k → (p : ℕ) → p < k → (j : ℕ) × (j < length xs) × (get_or at j 0 ≡ p)
