@@ -1,20 +1,12 @@
 -- A larger budget never gives more pages. Assumes nothing.
-use Rattle.std.proofs.Common.{◌≡◌, refl, sym, ap, ◌∙◌, Bool, true, false, cond, ◌&&◌, List, [], ◌∷◌, ◌++◌, ℕ, ◌+◌, ◌-◌, ◌≤◌, ◌<◌, arith, length, leb, ltb, take, drop, take-add}
-use Rattle.std.proofs.lemmas.Bool.Decides.{nat_tests}
+use Rattle.std.proofs.Common.{◌≡◌, refl, sym, ap, ◌∙◌, Bool, true, false, cond, ◌&&◌, List, [], ◌∷◌, ◌++◌, ℕ, ◌+◌, ◌-◌, ◌≤◌, ◌<◌, arith, length, leb, take, drop, take-add}
 use Rattle.std.proofs.lemmas.List.Sums.{fold-append}
 use Rattle.pages.specs.declared.order.Image.{Image}
 use Rattle.pages.specs.declared.state.State.{State}
 use Rattle.pages.specs.State.{start}
 use Rattle.pages.specs.Search.{Visit, ended, packings, all_visits, met, better, fewest, best}
 use Rattle.pages.specs.Answer.{small, packed, refused, answer}
-
-better_le : (m s : State) → (better m s).opened ≤ m.opened
-better_le m s = grind (arith, nat_tests)
-
--- the best of more packings has no more pages
-fewest_le : (m : State) (ss : List State) → (fewest m ss).opened ≤ m.opened
-fewest_le m [] = omega arith
-fewest_le m (s ∷ ss) = omega (arith, fewest_le (better m s) ss, better_le m s)
+use Rattle.pages.proofs.Fewest.{fewest_le}
 
 pub ended_append : (bs : List Image) (st : State) (ss ts : List State) → ended bs st (ss ++ ts) ≡ ended bs st ss ++ ts
 unfolding ended

@@ -1,4 +1,5 @@
 pub mod Sums
+pub mod Fewest
 pub mod Budget
 pub mod Least
 pub mod Sorted

@@ -1,5 +1,5 @@
 -- What holds of every answer. Assumes nothing.
-use Rattle.std.proofs.Common.{◌≡◌, ◌∙◌, sym, List, ◌∷◌, ℕ, suc, ◌+◌, ◌-◌, ◌≤◌, ◌<◌, min, arith, length, get_or, true}
+use Rattle.std.proofs.Common.{◌≡◌, ◌∙◌, sym, List, ◌∷◌, ◌++◌, ℕ, suc, ◌+◌, ◌-◌, ◌≤◌, ◌<◌, min, arith, length, get_or, take}
 use Rattle.std.specs.List.{All}
 use Rattle.std.specs.List.Sorted.{IsPermutation}
 use Rattle.std.proofs.lemmas.List.Elements.{All-from_recursion}
@@ -15,6 +15,7 @@ use Rattle.pages.proofs.Least as Least
 use Rattle.pages.proofs.Sorted as Sorted
 use Rattle.pages.proofs.Packed as Packings
 use Rattle.pages.proofs.First as First
+use Rattle.pages.proofs.Fewest as Fewest
 use Rattle.pages.proofs.Refused as Refused
 
 -- A larger budget never gives more pages.
@@ -49,6 +50,23 @@ module _ (xs : List ℕ) (b : ℕ) (taken : (answer xs b).number ≡ 0) where
   pub pages_listed : length (answer xs b).pages ≡ length xs
   unfolding packed
   pages_listed = rw is_packed (Packings.best_listed xs few low b)
+
+  -- The pages are those of the best packing met, for each image of the list.
+  pub pages_are : (answer xs b).pages ≡ take (length xs) (best xs b).pages
+  unfolding packed
+  pages_are = rw is_packed
+
+  pub opened_is : (answer xs b).opened ≡ (best xs b).opened
+  unfolding packed
+  opened_is = rw is_packed
+
+  -- That is the first packing met with the fewest pages, the start included: those before it have more, and those behind it as many or more.
+  pub first_fewest : (us : List State) × (ts : List State) × (start xs ∷ met xs b ≡ us ++ best xs b ∷ ts)
+      × All (λ st. (answer xs b).opened < st.opened) us × All (λ st. (answer xs b).opened ≤ st.opened) ts
+  unfolding packed
+  first_fewest =
+      let f = Fewest.first_fewest (start xs) (met xs b) in
+      rw is_packed (f.0, f.1, f.2, All-from_recursion _ f.0 f.3, All-from_recursion _ f.1 f.4)
 
   -- `above` is by how much the pages are above the total size divided by 4,096, rounded up.
   pub above_is : (answer xs b).opened ≡ needed xs + (answer xs b).above
