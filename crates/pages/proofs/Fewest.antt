@@ -18,8 +18,8 @@ abbrev First : State → List State → Type 0
 First f ms = (us : List State) × (ts : List State) × (ms ≡ us ++ f ∷ ts) × Each (λ s. f.opened < s.opened) us × Each (λ s. f.opened ≤ s.opened) ts
 
 -- a packing that is not better comes in behind m
-kept : (m s f : State) (ss us ts : List State) → m.opened ≤ s.opened → m ∷ ss ≡ us ++ f ∷ ts → Each (λ s. f.opened < s.opened) us → Each (λ s. f.opened ≤ s.opened) ts
-    → First f (m ∷ s ∷ ss)
+kept : (m s f : State) (ss us ts : List State) → m.opened ≤ s.opened → m ∷ ss ≡ us ++ f ∷ ts → Each (λ s. f.opened < s.opened) us
+    → Each (λ s. f.opened ≤ s.opened) ts → First f (m ∷ s ∷ ss)
 kept m s f ss [] ts l e h k =
     let z : m ≡ f = cc in
     ([], s ∷ ts, cc, tt, (omega (arith, ap (λ (x : State). x.opened) z), k))
@@ -28,7 +28,8 @@ kept m s f ss (u ∷ us) ts l e h k =
     let n : f.opened < m.opened = omega (arith, h.0, ap (λ (x : State). x.opened) z) in
     (m ∷ s ∷ us, ts, cc, (n, (omega arith, h.1)), k)
 
-first_by : (m s f : State) (ss : List State) (c : Bool) → ltb s.opened m.opened ≡ c → f.opened ≤ (cond c s m).opened → First f (cond c s m ∷ ss) → First f (m ∷ s ∷ ss)
+first_by : (m s f : State) (ss : List State) (c : Bool) → ltb s.opened m.opened ≡ c → f.opened ≤ (cond c s m).opened
+    → First f (cond c s m ∷ ss) → First f (m ∷ s ∷ ss)
 first_by m s f ss true e l r = (m ∷ r.0, r.1, ap (λ x. m ∷ x) r.2, (omega (arith, ltb-true s.opened m.opened e), r.3), r.4)
 first_by m s f ss false e l r = kept m s f ss r.0 r.1 (ltb-false s.opened m.opened e) r.2 r.3 r.4
 

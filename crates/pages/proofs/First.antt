@@ -51,7 +51,8 @@ some_left [] st ss h = absurd (omega arith)
 some_left (a ∷ left) st ss h = refl
 
 -- Of a list with an image the search meets the start before any other packing.
-pub start_again : (xs : List ℕ) → length xs ≤ 32 → ((j : ℕ) → get_or xs j 0 ≤ 4096) → 0 < length xs → (ss : List State) × (packings (all_visits xs) ≡ start xs ∷ ss)
+pub start_again : (xs : List ℕ) → length xs ≤ 32 → ((j : ℕ) → get_or xs j 0 ≤ 4096) → 0 < length xs
+    → (ss : List State) × (packings (all_visits xs) ≡ start xs ∷ ss)
 start_again xs few low some =
     let i = started_first (order xs) (order_fit xs few low) (order xs) empty (empty_good xs few low) in
     (i.0, sym (some_left (order xs) empty _ (omega (arith, length_order xs))) ∙ i.1)

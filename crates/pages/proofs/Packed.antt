@@ -99,7 +99,8 @@ module _ (done : List Image) (a : Image) (p : ℕ) (st : State) (h : Placed done
   same_bytes : (q : ℕ) → over (bytes old q) done ≡ over (bytes now q) done
   same_bytes q = over_same _ _ done (each_weaker _ _ (λ b e. ap (λ (m : ℕ). cond (eqb m q) b.size 0) e) done same)
 
-  page_room : (q : ℕ) (c : Bool) → eqb p q ≡ c → over (bytes now q) done + (cond c a.size 0 + 0) + get_or (set st.free p (get_or st.free p 0 - a.size)) q 0 ≤ 4096
+  page_room : (q : ℕ) (c : Bool) → eqb p q ≡ c
+      → over (bytes now q) done + (cond c a.size 0 + 0) + get_or (set st.free p (get_or st.free p 0 - a.size)) q 0 ≤ 4096
   page_room q true e =
       let z : p ≡ q = grind (arith, nat_tests) in
       rw (← z) (omega (arith, less_free st.free p a.size fits, h.room p, same_bytes p))
@@ -152,7 +153,8 @@ module _ (o : List Image) (fit : Fit o) where
     -- the page behind the open ones has room
     pub room_behind : a.size ≤ get_or st.free st.opened 0
     room_behind =
-        let l : st.opened < 32 = omega (arith, opens_length (λ j. get_or st.pages j 0) g.done 0 st.opened g.placed.opens, ap length g.split, length-append g.done (a ∷ left), fit.few) in
+        let n = opens_length (λ j. get_or st.pages j 0) g.done 0 st.opened g.placed.opens in
+        let l : st.opened < 32 = omega (arith, n, ap length g.split, length-append g.done (a ∷ left), fit.few) in
         omega (arith, g.placed.fresh st.opened (omega arith) l, is_low)
 
     good_put : (p : ℕ) → p ≤ st.opened → a.size ≤ get_or st.free p 0 → Good o left (put a p st)
@@ -175,13 +177,15 @@ module _ (o : List Image) (fit : Fit o) where
   abbrev GoodVisit : Visit → Type 0
   GoodVisit v = Good o v.left v.state
 
-  tried_good : (c : Bool) (below : State → List Visit) (left : List Image) (st : State) → (c ≡ true → Good o left st) → ((s : State) → Good o left s → Each GoodVisit (below s))
+  tried_good : (c : Bool) (below : State → List Visit) (left : List Image) (st : State) → (c ≡ true → Good o left st)
+      → ((s : State) → Good o left s → Each GoodVisit (below s))
       → Each GoodVisit (tried c below left st)
   unfolding tried
   tried_good false below left st h k = tt
   tried_good true below left st h k = (h refl, k st (h refl))
 
-  pages_good : (a : Image) (left : List Image) (st : State) (p q : ℕ) → ((s : State) → Good o left s → Each GoodVisit (visits left s)) → Good o (a ∷ left) st → p + q ≡ st.opened + 1
+  pages_good : (a : Image) (left : List Image) (st : State) (p q : ℕ)
+      → ((s : State) → Good o left s → Each GoodVisit (visits left s)) → Good o (a ∷ left) st → p + q ≡ st.opened + 1
       → Each GoodVisit (flat_map (λ p. tried (has_room a p st) (visits left) left (put a p st)) (range_with_len p q))
   pages_good a left st p zero k g e = tt
   pages_good a left st p (suc q) k g e =
@@ -230,7 +234,12 @@ module _ (xs : List ℕ) (few : length xs ≤ 32) (low : (j : ℕ) → get_or xs
   empty_good = record {
     done = [];
     split = refl;
-    placed = record { long = length-replicate {A = ℕ} 32 0; room = λ p. omega (arith, all_left 32 p); opens = refl; fresh = λ p l h. get_or-replicate 32 p 4096 0 h };
+    placed = record {
+      long = length-replicate {A = ℕ} 32 0;
+      room = λ p. omega (arith, all_left 32 p);
+      opens = refl;
+      fresh = λ p l h. get_or-replicate 32 p 4096 0 h;
+    };
   }
 
   start_placed : Placed (order xs) (start xs)
