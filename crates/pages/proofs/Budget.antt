@@ -1,5 +1,5 @@
 -- A larger budget never gives more pages. Assumes nothing.
-use Rattle.std.proofs.Common.{◌≡◌, refl, sym, ap, ◌∙◌, Bool, true, false, cond, ◌&&◌, List, [], ◌∷◌, ◌++◌, ℕ, ◌+◌, ◌-◌, ◌≤◌, ◌<◌, arith, length, leb, take, drop, take-add}
+use Rattle.std.proofs.Common.{◌≡◌, refl, ap, ◌∙◌, Bool, true, false, cond, ◌&&◌, List, [], ◌∷◌, ◌++◌, ℕ, ◌+◌, ◌-◌, ◌≤◌, arith, length, leb, take, drop, take-add}
 use Rattle.std.proofs.lemmas.List.Sums.{fold-append}
 use Rattle.pages.specs.declared.order.Image.{Image}
 use Rattle.pages.specs.declared.state.State.{State}

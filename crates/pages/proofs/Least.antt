@@ -1,5 +1,5 @@
 -- No packing is further below ours than `above`. Assumes nothing.
-use Rattle.std.proofs.Common.{◌≡◌, ap, ◌∙◌, Bool, true, false, cond, ◌&&◌, List, ℕ, zero, suc, ◌+◌, ◌*◌, ◌≤◌, ◌<◌, arith, length, get_or, leb, sum}
+use Rattle.std.proofs.Common.{◌≡◌, Bool, true, false, cond, ◌&&◌, List, ℕ, zero, suc, ◌+◌, ◌≤◌, ◌<◌, arith, length, get_or, leb}
 use Rattle.pages.specs.Packs.{upto, part, load, Packs}
 use Rattle.pages.specs.Answer.{needed, small, packed, refused, answer}
 use Rattle.pages.proofs.Sums.{upto_none, upto_add, upto_le, upto_one, sum_is}

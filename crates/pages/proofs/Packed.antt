@@ -1,5 +1,5 @@
 -- Every packing that the search meets, and the start, is a packing. Assumes nothing.
-use Rattle.std.proofs.Common.{◌≡◌, ◌≢◌, refl, sym, ap, ◌∙◌, Bool, true, false, cond, List, [], ◌∷◌, ◌++◌, append_assoc, append-nil, ℕ, zero, suc, ◌+◌, ◌-◌, ◌≤◌, ◌<◌, max, arith, length, get_or, set, take, replicate, eqb, leb, leb-true, eq-eqb, add-one, length-append, length-set, get_or-set_same, get_or-set_other, get_or-take, length-take-le}
+use Rattle.std.proofs.Common.{◌≡◌, ◌≢◌, refl, sym, ap, ◌∙◌, Bool, true, false, cond, List, [], ◌∷◌, ◌++◌, append_assoc, append-nil, ℕ, zero, suc, ◌+◌, ◌-◌, ◌≤◌, ◌<◌, max, arith, length, get_or, set, take, replicate, eqb, leb-true, eq-eqb, length-append, length-set, get_or-set_same, get_or-set_other, get_or-take, length-take-le}
 use Rattle.std.specs.List.{range_with_len, flat_map, AllByRecursion as Each}
 use Rattle.std.proofs.lemmas.Bool.{cond_both}
 use Rattle.std.proofs.lemmas.Bool.Decides.{nat_tests}
