@@ -8,7 +8,7 @@ use Rattle.pages.specs.Search.{Visit, ended, packings, all_visits, met, better, 
 use Rattle.pages.specs.Answer.{small, packed, refused, answer}
 use Rattle.pages.proofs.Fewest.{fewest_le}
 
-pub ended_append : (bs : List Image) (st : State) (ss ts : List State) → ended bs st (ss ++ ts) ≡ ended bs st ss ++ ts
+ended_append : (bs : List Image) (st : State) (ss ts : List State) → ended bs st (ss ++ ts) ≡ ended bs st ss ++ ts
 unfolding ended
 ended_append [] st ss ts = refl
 ended_append (b ∷ bs) st ss ts = refl

@@ -1,7 +1,6 @@
 -- Every packing that the search meets, and the start, is a packing. Assumes nothing.
-use Rattle.std.proofs.Common.{◌≡◌, ◌≢◌, refl, sym, ap, ◌∙◌, Bool, true, false, cond, List, [], ◌∷◌, ◌++◌, append_assoc, append-nil, ℕ, zero, suc, ◌+◌, ◌-◌, ◌≤◌, ◌<◌, max, arith, length, get_or, set, take, replicate, eqb, leb-true, eq-eqb, length-append, length-set, get_or-set_same, get_or-set_other, get_or-take, length-take-le}
+use Rattle.std.proofs.Common.{◌≡◌, ◌≢◌, refl, sym, ap, subst, ◌∙◌, Bool, true, false, cond, List, [], ◌∷◌, ◌++◌, append_assoc, append-nil, ℕ, zero, suc, ◌+◌, ◌-◌, ◌≤◌, ◌<◌, max, arith, length, get_or, set, take, replicate, eqb, leb-true, eq-eqb, length-append, length-set, get_or-set_same, get_or-set_other, get_or-take, length-take-le}
 use Rattle.std.specs.List.{range_with_len, flat_map, AllByRecursion as Each}
-use Rattle.std.proofs.lemmas.Bool.{cond_both}
 use Rattle.std.proofs.lemmas.Bool.Decides.{nat_tests}
 use Rattle.std.proofs.lemmas.List.{get_or-replicate, length-replicate}
 use Rattle.std.proofs.lemmas.List.Elements.{All-from_recursion, recursion_from_All, All-take}
@@ -9,9 +8,10 @@ use Rattle.pages.specs.declared.order.Image.{Image}
 use Rattle.pages.specs.declared.state.State.{State}
 use Rattle.pages.specs.Order.{image, order}
 use Rattle.pages.specs.State.{empty, put, has_room, first_room, started, start}
-use Rattle.pages.specs.Search.{Visit, tried, visits, all_visits, ended, packings, met, better, fewest, best}
+use Rattle.pages.specs.Search.{Visit, tried, visits, all_visits, ended, packings, met, best}
 use Rattle.pages.specs.Packs.{upto, part, Opens, Packed}
 use Rattle.pages.proofs.Sums.{over, over_append, over_ordered, upto_same, upto_one, upto_out}
+use Rattle.pages.proofs.Fewest.{first_fewest}
 use Rattle.pages.proofs.Sorted.{one, others, length_order, order_each, each_order}
 
 module _ {X : Type 0} (P : X → Type 0) where
@@ -118,7 +118,7 @@ module _ (done : List Image) (a : Image) (p : ℕ) (st : State) (h : Placed done
   }
 
 -- the first page with room has room, if the page behind the open ones has
-pub first_fits : (free : List ℕ) (s p q e : ℕ) → p + q ≡ e → s ≤ get_or free e 0 → (first_room free s p q ≤ e) × (s ≤ get_or free (first_room free s p q) 0)
+first_fits : (free : List ℕ) (s p q e : ℕ) → p + q ≡ e → s ≤ get_or free e 0 → (first_room free s p q ≤ e) × (s ≤ get_or free (first_room free s p q) 0)
 unfolding first_room
 first_fits free s p zero e z h = let y : p ≡ e = omega arith in rw y (omega arith, h)
 first_fits free s p (suc q) e z h = grind (arith, nat_tests, first_fits free s (suc p) q e (omega arith) h)
@@ -208,11 +208,6 @@ module _ (o : List Image) (fit : Fit o) where
   packings_placed [] h = tt
   packings_placed (v ∷ vs) h = ended_placed v.left v.state (packings vs) h.0 (packings_placed vs h.1)
 
--- the best of some packings is one of them
-fewest_keeps : (P : State → Type 0) (m : State) (ss : List State) → P m → Each P ss → P (fewest m ss)
-fewest_keeps P m [] h k = h
-fewest_keeps P m (s ∷ ss) h k = fewest_keeps P (better m s) ss (cond_both _ s m P (λ _. k.0) (λ _. h)) k.1
-
 all_left : (n p : ℕ) → get_or (replicate n 4096) p 0 ≤ 4096
 all_left zero p = omega arith
 all_left (suc n) zero = omega arith
@@ -252,7 +247,9 @@ module _ (xs : List ℕ) (few : length xs ≤ 32) (low : (j : ℕ) → get_or xs
       packings_placed (order xs) order_fit _ (recursion_from_All G _ (All-take G b (all_visits xs) all))
 
   best_placed : (b : ℕ) → Placed (order xs) (best xs b)
-  best_placed b = fewest_keeps (Placed (order xs)) (start xs) (met xs b) start_placed (met_placed b)
+  best_placed b =
+      let f = first_fewest (start xs) (met xs b) in
+      each_middle (Placed (order xs)) f.0 _ f.1 (subst (Each (Placed (order xs))) f.2 (start_placed, met_placed b))
 
   -- pages that are those of a state in which all images are placed
   placed_packs : (at : List ℕ) (st : State) → ((j : ℕ) → j < length xs → get_or st.pages j 0 ≡ get_or at j 0) → Placed (order xs) st → Packed xs at st.opened

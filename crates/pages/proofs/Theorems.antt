@@ -1,11 +1,11 @@
 -- What holds of every answer. Assumes nothing.
-use Rattle.std.proofs.Common.{◌≡◌, List, ◌∷◌, ◌++◌, ℕ, suc, ◌+◌, ◌-◌, ◌≤◌, ◌<◌, min, true, arith, length, get_or, take}
-use Rattle.std.specs.List.{All}
+use Rattle.std.proofs.Common.{◌≡◌, List, ◌∷◌, ◌++◌, map, ℕ, suc, ◌+◌, ◌-◌, ◌≤◌, ◌<◌, min, true, arith, length, get_or, take}
+use Rattle.std.specs.List.{All, range_with_len}
 use Rattle.std.specs.List.Sorted.{IsPermutation}
 use Rattle.std.proofs.lemmas.List.Elements.{All-from_recursion}
 use Rattle.pages.specs.declared.order.Image.{Image}
 use Rattle.pages.specs.declared.state.State.{State}
-use Rattle.pages.specs.Order.{before, order}
+use Rattle.pages.specs.Order.{before, image, order}
 use Rattle.pages.specs.State.{start}
 use Rattle.pages.specs.Search.{all_visits, packings, met, best}
 use Rattle.pages.specs.Packs.{Packs, Packed}
@@ -56,11 +56,12 @@ module _ (xs : List ℕ) (b : ℕ) (taken : (answer xs b).number ≡ 0) where
   unfolding packed
   pages_are = rw is_packed
 
+  -- They are as many as it opened.
   pub opened_is : (answer xs b).opened ≡ (best xs b).opened
   unfolding packed
   opened_is = rw is_packed
 
-  -- That is the first packing met with the fewest pages, the start included: those before it have more, and those behind it as many or more.
+  -- The best is the first packing met with the fewest pages, the start included: those before it have more, and those behind it as many or more.
   pub first_fewest : (us : List State) × (ts : List State) × (start xs ∷ met xs b ≡ us ++ best xs b ∷ ts)
       × All (λ st. (answer xs b).opened < st.opened) us × All (λ st. (answer xs b).opened ≤ st.opened) ts
   unfolding packed
@@ -89,19 +90,22 @@ module _ (xs : List ℕ) (b : ℕ) (taken : (answer xs b).number ≡ 0) where
 pub no_page_empty : (xs at : List ℕ) (k : ℕ) → Packed xs at k → (p : ℕ) → p < k → (j : ℕ) × (j < length xs) × (get_or at j 0 ≡ p)
 no_page_empty = Packings.no_page_empty
 
--- The checks: more than 32 images, or one above 4,096 bytes; and no other list is refused.
+-- More than 32 images are refused.
 pub refused_many : (xs : List ℕ) (b : ℕ) → 32 < length xs → answer xs b ≡ refused
 refused_many = Refused.many
 
+-- A list with an image above 4,096 bytes is refused.
 pub refused_large : (xs : List ℕ) (b j : ℕ) → 4096 < get_or xs j 0 → answer xs b ≡ refused
 refused_large = Refused.large
 
+-- No other list is refused.
 pub no_other_refused : (xs : List ℕ) (b : ℕ) → length xs ≤ 32 → ((j : ℕ) → get_or xs j 0 ≤ 4096) → (answer xs b).number ≡ 0
 no_other_refused = Refused.no_other
 
--- The order has each image of the list once, and each goes before the next one: it is larger, or as large and earlier in the list.
-pub order_each_once : (xs : List ℕ) → IsPermutation (Sorted.images xs (length xs)) (order xs)
+-- The order has each image of the list once.
+pub order_each_once : (xs : List ℕ) → IsPermutation (map (image xs) (range_with_len 0 (length xs))) (order xs)
 order_each_once = Sorted.order_moves
 
+-- Each image of the order goes before the next one: it is larger, or as large and earlier in the list.
 pub order_sorted : (xs : List ℕ) (i : ℕ) (d : Image) → suc i < length xs → before (get_or (order xs) i d) (get_or (order xs) (suc i) d) ≡ true
 order_sorted = Sorted.order_sorted
