@@ -1,3 +1,7 @@
+pub mod Insert
+pub mod Rooms
+pub mod Turns
+pub mod Whole
 pub mod Sums
 pub mod Fewest
 pub mod Budget

@@ -61,6 +61,13 @@ fn searched(sizes: &[u16], budget: u64) -> (State, u64)
     (search.best, taken)
 }
 
+// The pages above so many. `as`: what is left of a byte fits one.
+fn above(opened: u8, needed: u32) -> u8
+    ensures { result ≡ opened - needed }
+{
+    u32::from(opened).saturating_sub(needed) as u8
+}
+
 // The first packing met with the fewest pages, the start included, in at most `budget` steps.
 pub fn pack(sizes: &[u16], budget: u64) -> Result<Packing, BadList>
     ensures { shown sizes.now result ≡ answer sizes.now budget }
@@ -77,7 +84,7 @@ pub fn pack(sizes: &[u16], budget: u64) -> Result<Packing, BadList>
         pages,
         opened: best.opened,
         steps,
-        above: best.opened - pages_needed(sizes) as u8,
+        above: above(best.opened, pages_needed(sizes)),
     })
 }
 
@@ -91,7 +98,10 @@ mod tests {
         let sizes = [1700, 1700, 1190, 1190, 1190, 1190];
         for budget in [0, 1, 28, 29, 205, 1000] {
             match pack(&sizes, budget) {
-                Ok(p) => println!(rt; "{budget}: {:?} {} {} {}", p.pages, p.opened, p.steps, p.above)?,
+                Ok(p) => println!(rt;
+                    "{budget}: {:?} {} {} {}",
+                    p.pages, p.opened, p.steps, p.above
+                )?,
                 Err(_) => println!(rt; "bad")?,
             }
         }

@@ -48,7 +48,7 @@ impl Search {
     // The image at place `i` on page `p`, and those behind it, in at most `budget` steps; all are taken back. The steps taken.
     #[cycle(search)]
     fn on_page(&mut self, i: usize, p: u8, budget: u64) -> u64
-        requires { (i < self.old.count) × (p ≤ self.old.placed.opened) × (self.old.placed.opened ≤ i) × (0 < budget) }
+        requires { (i < self.old.count) × (self.old.count ≤ 32) × (p ≤ self.old.placed.opened) × (self.old.placed.opened ≤ i) × (0 < budget) }
         ensures { Searched self.old (on_page (left_from i self.old) p self.old.placed) budget self.new result }
     {
         let image = self.images[i];
@@ -67,7 +67,7 @@ impl Search {
     // The images from place `i` on, page by page, in at most `budget` steps. The steps taken.
     #[cycle(search)]
     pub(crate) fn search(&mut self, i: usize, budget: u64) -> u64
-        requires { (i < self.old.count) × (self.old.placed.opened ≤ i) }
+        requires { (i < self.old.count) × (self.old.count ≤ 32) × (self.old.placed.opened ≤ i) }
         ensures { Searched self.old (visits (left_from i self.old) self.old.placed) budget self.new result }
     {
         let size = self.images[i].size;

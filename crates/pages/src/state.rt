@@ -28,7 +28,6 @@ pub struct Search {
     pub count: usize,
     pub placed: State,
     pub best: State,
-    ghost few: { count ≤ 32 },
 }
 
 impl State {
@@ -90,6 +89,7 @@ impl State {
     }
 
     // The first open page with room for so many bytes, else the page behind them.
+    #[tactic(auto, unfolding(crate::specs::State::first_room))]
     pub(crate) fn first_room(&self, size: u16) -> u8
         requires { self.now.opened ≤ 32 }
         ensures { (result ≡ first_room self.now.free size 0 self.now.opened) × (result ≤ self.now.opened) }
