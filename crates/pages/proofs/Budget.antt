@@ -1,22 +1,12 @@
 -- A larger budget never gives more pages. Assumes nothing.
-use Rattle.std.proofs.Common.{◌≡◌, refl, ap, ◌∙◌, Bool, true, false, cond, ◌&&◌, List, [], ◌∷◌, ◌++◌, ℕ, ◌+◌, ◌-◌, ◌≤◌, arith, length, leb, take, drop, take-add}
+use Rattle.std.proofs.Common.{◌≡◌, ap, ◌∙◌, Bool, true, false, cond, ◌&&◌, List, ◌++◌, ℕ, ◌+◌, ◌-◌, ◌≤◌, arith, length, leb, take, drop, take-add}
 use Rattle.std.proofs.lemmas.List.Sums.{fold-append}
-use Rattle.pages.specs.declared.order.Image.{Image}
 use Rattle.pages.specs.declared.state.State.{State}
 use Rattle.pages.specs.State.{start}
-use Rattle.pages.specs.Search.{Visit, ended, packings, all_visits, met, better, fewest, best}
+use Rattle.pages.specs.Search.{packings, all_visits, met, better, fewest, best}
 use Rattle.pages.specs.Answer.{small, packed, refused, answer}
+use Rattle.pages.proofs.Turns.{packings_append}
 use Rattle.pages.proofs.Fewest.{fewest_le}
-
-ended_append : (bs : List Image) (st : State) (ss ts : List State) → ended bs st (ss ++ ts) ≡ ended bs st ss ++ ts
-unfolding ended
-ended_append [] st ss ts = refl
-ended_append (b ∷ bs) st ss ts = refl
-
-pub packings_append : (us vs : List Visit) → packings (us ++ vs) ≡ packings us ++ packings vs
-unfolding packings
-packings_append [] vs = refl
-packings_append (u ∷ us) vs = rw (packings_append us vs) (ended_append u.left u.state (packings us) (packings vs))
 
 -- the packings met with a smaller budget are the first of those met with a larger one
 met_more : (xs : List ℕ) (b d : ℕ) → met xs (b + d) ≡ met xs b ++ packings (take d (drop b (all_visits xs)))

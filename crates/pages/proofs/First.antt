@@ -6,7 +6,7 @@ use Rattle.pages.specs.declared.state.State.{State}
 use Rattle.pages.specs.Order.{order}
 use Rattle.pages.specs.State.{empty, put, has_room, first_room, started, start}
 use Rattle.pages.specs.Search.{Visit, tried, visits, all_visits, ended, packings}
-use Rattle.pages.proofs.Budget.{packings_append}
+use Rattle.pages.proofs.Turns.{packings_append}
 use Rattle.pages.proofs.Sorted.{length_order}
 use Rattle.pages.proofs.Packed.{Fit, Good, room_behind, first_good, order_fit, empty_good}
 
