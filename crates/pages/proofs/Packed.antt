@@ -6,7 +6,7 @@ use Rattle.std.proofs.lemmas.List.{get_or-replicate, length-replicate}
 use Rattle.std.proofs.lemmas.List.Elements.{All-from_recursion, recursion_from_All, All-take}
 use Rattle.pages.specs.declared.order.Image.{Image}
 use Rattle.pages.specs.declared.state.State.{State}
-use Rattle.pages.specs.Order.{image, order}
+use Rattle.pages.specs.Order.{order}
 use Rattle.pages.specs.State.{empty, put, has_room, first_room, started, start}
 use Rattle.pages.specs.Search.{Visit, tried, visits, all_visits, ended, packings, met, best}
 use Rattle.pages.specs.Packs.{upto, part, Opens, Packed}
@@ -259,8 +259,12 @@ module _ (xs : List ℕ) (few : length xs ≤ 32) (low : (j : ℕ) → get_or xs
       record {
         packs = record {
           within = each_order (λ a. get_or at a.index 0 < st.opened) xs (opens_within (λ j. get_or at j 0) (order xs) 0 st.opened opens);
-          room = λ p. omega (arith, h.room p, over_ordered (bytes old p) xs (length xs),
-              upto_same (part xs old p) (part xs (λ j. get_or at j 0) p) (length xs) (λ j l. ap (λ (m : ℕ). cond (eqb m p) (get_or xs j 0) 0) (e j l)));
+          room = λ p. omega (
+            arith,
+            h.room p,
+            over_ordered (bytes old p) xs (length xs),
+            upto_same (part xs old p) (part xs (λ j. get_or at j 0) p) (length xs) (λ j l. ap (λ (m : ℕ). cond (eqb m p) (get_or xs j 0) 0) (e j l)),
+          );
         };
         opens = opens;
       }
