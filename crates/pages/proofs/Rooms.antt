@@ -1,8 +1,8 @@
 -- The first page with room, and the start, image by image. Assumes nothing.
-use mathlib.Core.Path.{◌≡◌, refl, sym, ap, ◌∙◌}
+use mathlib.Core.Path.{◌≡◌, refl}
 use native.Mathlib.Omega.{arith}
 use native.Mathlib.Numerals.{add-one}
-use Rattle.std.proofs.Common.{ℕ, suc, ◌+◌, ◌-◌, ◌<◌, ◌≤◌, List, [], ◌∷◌, length, take, drop, get_or, max}
+use Rattle.std.proofs.Common.{ℕ, suc, ◌+◌, ◌-◌, ◌<◌, ◌≤◌, List, length, take, drop, get_or}
 use Rattle.std.proofs.Math.Seq.{slice-cons, slice_empty}
 use Rattle.std.proofs.lemmas.Bool.{lt-leb}
 use Rattle.pages.specs.declared.order.Image.{Image}

@@ -10,9 +10,9 @@ ghost use Rattle.pages.specs.Answer.{REFUSED, needed, small, shown, answer};
 ghost use Rattle.pages.specs.Search.{best, steps};
 
 use order::order_of;
+use state::{Search, State};
 use std::error::Error;
 use std::fmt;
-use state::{Search, State};
 
 // The most images of a list, and the bytes of a page, which are the most of an image.
 pub const IMAGES: usize = 32;

@@ -1,6 +1,4 @@
-use mathlib.Core.Path.{refl, sym, ap, ◌∙◌}
 use native.Mathlib.Omega.{arith}
-use Rattle.std.proofs.Common.{rules, ◌≡◌}
 use Rattle.pages.specs.Answer.{shown, packed}
 use Rattle.pages.proofs.Whole.{too_many, too_large, taken}
 use Rattle.pages.proofs.pack.Goals as goal

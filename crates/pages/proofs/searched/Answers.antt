@@ -1,5 +1,4 @@
-use mathlib.Core.Path.{refl, sym, ap, ◌∙◌}
-use native.Mathlib.Omega.{arith}
+use mathlib.Core.Path.{refl, ◌∙◌}
 use Rattle.std.proofs.Common.{rules, ◌≡◌}
 use Rattle.pages.specs.Order.{order}
 use Rattle.pages.specs.State.{start}
