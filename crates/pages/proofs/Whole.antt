@@ -1,8 +1,11 @@
 -- The search from nothing placed, and the checks. Assumes nothing.
+use mathlib.Core.Path.{sym, ap, ◌∙◌}
 use mathlib.Core.Path.{◌≡◌, refl}
 use native.Mathlib.Omega.{arith}
-use Rattle.std.proofs.Common.{ℕ, ◌<◌, ◌≤◌, min, Bool, true, false, cond, ◌&&◌, List, [], ◌∷◌, length, leb}
+use Rattle.std.proofs.Common.{ℕ, ◌<◌, ◌≤◌, min, Bool, true, false, cond, ◌&&◌, List, [], ◌∷◌, length, leb, take, drop, replicate, ◌++◌, ◌-◌}
 use Rattle.std.proofs.lemmas.Bool.{lt-leb, le-leb}
+use Rattle.std.proofs.lemmas.List.{length-take-le, drop-replicate}
+use Rattle.std.proofs.Math.Seq.{take-append_seam, drop-append_seam}
 use Rattle.pages.specs.declared.state.State.{State}
 use Rattle.pages.specs.Search.{visits, packings, best, steps}
 use Rattle.pages.proofs.Turns.{take_none}
@@ -31,3 +34,13 @@ module _ (xs : List ℕ) (b : ℕ) where
   pub taken : length xs ≤ 32 → true ≡ small xs → packed xs b ≡ answer xs b
   unfolding answer
   taken h k = rw (le-leb (length xs) 32 h, ← k) refl
+
+-- the first n of a list, and zeros behind them
+pub seam : (xs ps : List ℕ) (n : ℕ) → length ps ≡ 32 → n ≤ 32 → xs ≡ take n ps
+    → (take n (xs ++ drop n (replicate 32 0)) ≡ take n ps) × (drop n (xs ++ drop n (replicate 32 0)) ≡ replicate (32 - n) 0)
+seam xs ps n e h is =
+    let l : length xs ≡ n = ap length is ∙ length-take-le n ps (omega arith) in
+    let zs = drop n (replicate 32 0) in (
+      ap (λ k. take k (xs ++ zs)) (sym l) ∙ take-append_seam xs zs ∙ is,
+      ap (λ k. drop k (xs ++ zs)) (sym l) ∙ drop-append_seam xs zs ∙ drop-replicate n 32 0,
+    )

@@ -1,6 +1,7 @@
 -- The answer. Definitions only.
-use Rattle.std.specs.Prelude.{ℕ, ◌+◌, ◌-◌, ◌/◌, Bool, cond, ◌&&◌, List, [], length, take, leb, Result, Ok, Err}
+use Rattle.std.specs.Prelude.{ℕ, ◌+◌, ◌-◌, ◌/◌, Bool, cond, ◌&&◌, List, [], length, take, leb, ltb, Result, Ok, Err}
 use Rattle.pages.specs.declared.BadList.{BadList}
+use Rattle.pages.specs.declared.BadList.TheVariants.{TooManyImages, ImageTooLarge}
 use Rattle.std.specs.List.{list_all, sum}
 use Rattle.pages.specs.declared.Packing.{Packing}
 use Rattle.pages.specs.Search.{best, steps}
@@ -45,3 +46,7 @@ answer xs budget = cond (leb (length xs) 32 && small xs) (packed xs budget) refu
 unfoldable pub shown : List ℕ → Result Packing BadList → Answer
 shown xs (Ok p) = record { number = 0; pages = take (length xs) p.pages; opened = p.opened; steps = p.steps; above = p.above }
 shown xs (Err why) = refused
+
+-- which of the two checks the list does not pass; the first of them where it passes neither
+abbrev pub reason : List ℕ → BadList
+reason xs = cond (ltb 32 (length xs)) TooManyImages ImageTooLarge

@@ -4,3 +4,4 @@ pub mod Search
 pub mod Searched
 pub mod Packs
 pub mod Answer
+pub mod ForC

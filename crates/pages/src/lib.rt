@@ -1,12 +1,13 @@
 // Fewer card pages: up to 32 program images on pages of 4,096 bytes, by a search with a budget. Nothing of Molang stands here.
 #![tactic(auto)]
 
+pub mod c;
 mod order;
 mod search;
 mod state;
 
-ghost use Rattle.std.specs.Prelude.{◌≡◌, ◌-◌, ◌≤◌, length};
-ghost use Rattle.pages.specs.Answer.{REFUSED, needed, small, shown, answer};
+ghost use Rattle.std.specs.Prelude.{◌≡◌, ◌-◌, ◌≤◌, length, take, drop, replicate, IfOk, IfErr};
+ghost use Rattle.pages.specs.Answer.{REFUSED, needed, small, shown, answer, reason};
 ghost use Rattle.pages.specs.Search.{best, steps};
 
 use order::order_of;
@@ -90,9 +91,21 @@ fn above(opened: u8, needed: u32) -> u8
     u32::from(opened).saturating_sub(needed) as u8
 }
 
-// The first packing met with the fewest pages, the start included, in at most `budget` steps.
+// The first `n` of the pages, and 0 behind them.
+fn listed(pages: [u8; IMAGES], n: usize) -> [u8; IMAGES]
+    requires { n ≤ 32 }
+    ensures { (take n result ≡ take n pages) × (drop n result ≡ replicate (32 - n) 0) }
+{
+    let mut listed = [0; IMAGES];
+    listed[..n].copy_from_slice(&pages[..n]);
+    listed
+}
+
+// The first packing met with the fewest pages, the start included, in at most `budget` steps; or why the list is refused.
 pub fn pack(sizes: &[u16], budget: u64) -> Result<Packing, BadList>
-    ensures { shown sizes.now result ≡ answer sizes.now budget }
+    ensures answer { shown sizes.now result ≡ answer sizes.now budget }
+    ensures behind { IfOk result (λ p. drop (length sizes.now) p.pages ≡ replicate (32 - length sizes.now) 0) }
+    ensures reason { IfErr result (λ why. why ≡ reason sizes.now) }
 {
     if IMAGES < sizes.len() {
         return Err(BadList::TooManyImages);
@@ -101,32 +114,11 @@ pub fn pack(sizes: &[u16], budget: u64) -> Result<Packing, BadList>
         return Err(BadList::ImageTooLarge);
     }
     let (best, steps) = searched(sizes, budget);
-    let pages = best.pages;
+    let pages = listed(best.pages, sizes.len());
     Ok(Packing {
         pages,
         opened: best.opened,
         steps,
         above: above(best.opened, pages_needed(sizes)),
     })
-}
-
-#[cfg(test)]
-mod tests {
-    use crate::pack;
-    use std::io;
-
-    #[test]
-    fn the_search_beats_the_start(rt: HostRuntime) -> io::Result<()> {
-        let sizes = [1700, 1700, 1190, 1190, 1190, 1190];
-        for budget in [0, 1, 28, 29, 205, 1000] {
-            match pack(&sizes, budget) {
-                Ok(p) => println!(rt;
-                    "{budget}: {:?} {} {} {}",
-                    p.pages, p.opened, p.steps, p.above
-                )?,
-                Err(_) => println!(rt; "bad")?,
-            }
-        }
-        Ok(())
-    }
 }
