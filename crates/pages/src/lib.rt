@@ -5,6 +5,8 @@ pub mod c;
 mod order;
 mod search;
 mod state;
+#[cfg(test)]
+mod tests;
 
 ghost use Rattle.std.specs.Prelude.{◌≡◌, ◌-◌, ◌≤◌, length, take, drop, replicate, IfOk, IfErr};
 ghost use Rattle.pages.specs.Answer.{REFUSED, needed, small, shown, answer, reason};

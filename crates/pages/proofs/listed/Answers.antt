@@ -1,6 +1,5 @@
-use mathlib.Core.Path.{refl, sym, ap, ◌∙◌}
 use native.Mathlib.Omega.{arith}
-use Rattle.std.proofs.Common.{rules, ◌≡◌}
+use Rattle.std.proofs.Common.{rules}
 use Rattle.pages.proofs.Whole.{seam}
 use Rattle.pages.proofs.listed.Goals as goal
 
