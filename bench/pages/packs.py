@@ -1,6 +1,7 @@
-"""A search for card pages of its own, written from the sentences of ticket C-24, and the answers of the program PACKS (packs.c over the static library) held to it.
+"""A search for card pages of its own, written from the sentences of ticket C-24, and the answers of a program held to it.
 
-packs.py PACKS EXAMPLES LISTS: the worked examples of the file EXAMPLES (sizes | budget -> refusal, pages, steps, above), and LISTS random lists.
+packs.py PACKS EXAMPLES LISTS: PACKS is packs.c over the static library. The worked examples of the file EXAMPLES (sizes | budget -> refusal, pages, steps,
+above) are held to the search too, and then come LISTS random lists.
 """
 import random
 import subprocess
@@ -166,7 +167,8 @@ def main(program, path, count):
     good.append(held("random list", drawn, due, answers(program, drawn)))
     refused = sum(1 for d in due if d[0])
     beaten = sum(1 for asked, d in zip(drawn, due) if not d[0] and d[1] < len(Search(*asked).start()))
-    print(f"card pages: {good[1]} of {len(lists)} examples and {good[2]} of {count} random lists agree ({refused} refused, {beaten} where the search beats the start)")
+    told = f"({refused} refused, {beaten} where the search beats the start)"
+    print(f"card pages: {good[1]} of {len(lists)} examples and {good[2]} of {count} random lists agree {told}")
     return bool(lists) and good == [len(lists), len(lists), count]
 
 
