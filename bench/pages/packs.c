@@ -6,14 +6,7 @@
 #include <stdio.h>
 #include <stdlib.h>
 
-struct molang_packing {
-    uint64_t steps;
-    uint8_t pages[32];
-    uint8_t refusal;
-    uint8_t opened;
-    uint8_t above;
-};
-struct molang_packing molang_pack(const uint16_t *sizes, size_t count, uint64_t budget);
+#include "molang.h"
 
 #define LONGEST 64
 
@@ -32,7 +25,7 @@ int main(void)
             return 1;
         struct molang_packing p = molang_pack(sizes, count, budget);
         printf("%d %d %" PRIu64 " %d", p.refusal, p.opened, p.steps, p.above);
-        for (int i = 0; i < 32; i++)
+        for (int i = 0; i < MOLANG_IMAGES; i++)
             printf(" %d", p.pages[i]);
         putchar('\n');
     }

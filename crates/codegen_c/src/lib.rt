@@ -1,10 +1,10 @@
 // The functions for C, in one static library: include/molang.h says the same to C. No other crate can use a static library.
 #![tactic(auto)]
 
-ghost use Rattle.std.specs.Prelude.{◌≡◌, ◌-◌, length, drop, replicate};
+ghost use Rattle.std.specs.Prelude.{◌≡◌, ◌-◌, drop, replicate};
 ghost use Rattle.codegen.specs.Build.{Packed};
 ghost use Rattle.pages.specs.Answer.{answer};
-ghost use Rattle.pages.specs.ForC.{told};
+ghost use Rattle.pages.specs.ForC.{listed, told};
 
 use pages::c::PackingForC;
 
@@ -20,7 +20,7 @@ pub extern "C" fn molang_build(tree: &[u8], workspace: &mut [u32], out: &mut [u8
 #[unsafe(no_mangle)]
 pub extern "C" fn molang_pack(sizes: &[u16], budget: u64) -> PackingForC
     ensures answer { told sizes.now result ≡ answer sizes.now budget }
-    ensures behind { drop (length sizes.now) result.pages ≡ replicate (32 - length sizes.now) 0 }
+    ensures behind { drop (listed sizes.now result) result.pages ≡ replicate (32 - listed sizes.now result) 0 }
 {
     pages::c::molang_pack(sizes, budget)
 }

@@ -22,7 +22,7 @@ fn main(rt: HostRuntime) -> ExitCode {
 }
 
 fn run(rt: &(impl Env + Files + Input + Print + AllocGlobal)) -> Result<(), Problem> {
-    let mut arguments = env::args(rt)?.skip(1);
+    let mut arguments = env::args(rt).map_err(Problem::Arguments)?.skip(1);
     let Some(text) = arguments.next() else {
         return Err(Problem::Usage);
     };
@@ -48,14 +48,23 @@ fn size(bytes: u64) -> u16 {
     u16::try_from(bytes).unwrap_or(u16::MAX)
 }
 
+// The size that stands in a line, digits alone. One of more than 64 bits is above a page too.
+fn size_in(line: &str) -> Option<u16> {
+    let digits = line.trim();
+    if digits.is_empty() || !digits.bytes().all(|b| b.is_ascii_digit()) {
+        return None;
+    }
+    Some(digits.parse::<u64>().map_or(u16::MAX, size))
+}
+
 fn sizes_of_lines(rt: &(impl Input + AllocGlobal)) -> Result<Vec<u16>, Problem> {
     let mut sizes = Vec::new(rt.alloc());
     for (number, line) in (1..u64::MAX).zip(rt.lines(rt.alloc())) {
-        let text = line?;
-        let Ok(bytes) = text.trim().parse::<u64>() else {
-            return Err(Problem::Line(number, text));
-        };
-        sizes.push(size(bytes))?;
+        let text = line.map_err(|error| Problem::Input(number, error))?;
+        match size_in(&text) {
+            Some(size) => sizes.push(size)?,
+            None => return Err(Problem::Line(number, text)),
+        }
     }
     Ok(sizes)
 }

@@ -6,7 +6,9 @@ use std::{fmt, io};
 #[derive(Drop)]
 pub enum Problem {
     Usage,
+    Arguments(io::Error),
     Budget(String),
+    Input(u64, io::Error),
     Line(u64, String),
     NoFile(String),
     File(String, io::Error),
@@ -21,10 +23,12 @@ impl fmt::Display for Problem {
                 f,
                 "usage: pack BUDGET [CARD FILE ..] (without files: sizes on standard input, one a line)"
             ),
-            Problem::Budget(text) => write!(f, "the budget is no number of steps: {text}"),
-            Problem::Line(number, text) => write!(f, "line {number} is no size: {text}"),
-            Problem::NoFile(name) => write!(f, "{name}: not a file"),
-            Problem::File(name, error) => write!(f, "{name}: {error}"),
+            Problem::Budget(text) => write!(f, "the budget is no number of steps: {text:?}"),
+            Problem::Arguments(error) => write!(f, "the arguments cannot be read: {error}"),
+            Problem::Input(number, error) => write!(f, "line {number} cannot be read: {error}"),
+            Problem::Line(number, text) => write!(f, "line {number} is no size: {text:?}"),
+            Problem::NoFile(name) => write!(f, "{name:?} is not a file"),
+            Problem::File(name, error) => write!(f, "{name:?} cannot be read: {error}"),
             Problem::List(bad) => write!(f, "refused {}: {bad}", bad.number()),
             Problem::System(error) => write!(f, "{error}"),
         }

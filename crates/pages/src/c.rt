@@ -1,7 +1,7 @@
 // The answer as one struct of C's layout: crate codegen_c exports the function, and include/molang.h says the same to C.
-ghost use Rattle.std.specs.Prelude.{◌≡◌, ◌-◌, length, drop, replicate};
+ghost use Rattle.std.specs.Prelude.{◌≡◌, ◌-◌, drop, replicate};
 ghost use Rattle.pages.specs.Answer.{answer};
-ghost use Rattle.pages.specs.ForC.{told};
+ghost use Rattle.pages.specs.ForC.{listed, told};
 
 use crate::{IMAGES, pack};
 
@@ -19,7 +19,7 @@ pub struct PackingForC {
 #[tactic(auto, unfolding(crate::specs::ForC::told, crate::specs::Answer::shown, crate::specs::Answer::refused))]
 pub fn molang_pack(sizes: &[u16], budget: u64) -> PackingForC
     ensures answer { told sizes.now result ≡ answer sizes.now budget }
-    ensures behind { drop (length sizes.now) result.pages ≡ replicate (32 - length sizes.now) 0 }
+    ensures behind { drop (listed sizes.now result) result.pages ≡ replicate (32 - listed sizes.now result) 0 }
 {
     match pack(sizes, budget) {
         Ok(p) => {
