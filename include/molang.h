@@ -1,4 +1,5 @@
-/* molang.h: the proved Molang code generator as one C function. Link crates/codegen_c/out/libcodegen.a (made by `./build library`). x86-64, C99 or C++.
+/* molang.h: the proved Molang code generator as one C function, and the packing of its images on card pages as another. Link
+ * crates/codegen_c/out/libcodegen.a (made by `./build library`). x86-64, C99 or C++.
  *
  * molang_build turns a tree image into a program image. It keeps nothing between calls, takes no memory of its own but the stack, calls nothing but memset and
  * memmove, and may run in several threads at once, each with its own workspace and output. Give it 256 KiB of stack: 42,048 bytes are the most that was seen,
@@ -84,6 +85,26 @@ static inline const char *molang_reason(enum molang_refusal refusal)
     }
     return "no answer of molang_build";
 }
+
+/* The most images of a list to pack, the bytes of a page, and the number of the one refusal of molang_pack: more than 32 images, or one of more than
+ * 4,096 bytes. */
+#define MOLANG_IMAGES 32
+#define MOLANG_PAGE 4096
+#define MOLANG_BAD_LIST 19
+
+/* Where the images lie. Refused: `refusal` is MOLANG_BAD_LIST, and all else 0. */
+struct molang_packing {
+    uint64_t steps;               /* the steps taken, at most the budget */
+    uint8_t pages[MOLANG_IMAGES]; /* each image's page in list order, pages numbered from 0 as they are opened; 0 behind the last image */
+    uint8_t refusal;              /* 0, or MOLANG_BAD_LIST */
+    uint8_t opened;               /* how many pages there are */
+    uint8_t above;                /* how many pages that is above the total size divided by 4,096, rounded up: no packing can be further below */
+};
+
+/* Packs the `count` images of these sizes on few pages: the largest first on the first page with room, and then a search over all places, image by image and
+ * page by page, that takes at most `budget` steps. The first packing with the fewest pages is answered. It takes no memory but a little stack, and its
+ * time is that of its steps. `sizes` is only read, and may be null where `count` is 0. */
+struct molang_packing molang_pack(const uint16_t *sizes, size_t count, uint64_t budget);
 
 #ifdef __cplusplus
 }

@@ -1,0 +1,13 @@
+pub mod Insert
+pub mod Rooms
+pub mod Turns
+pub mod Whole
+pub mod Sums
+pub mod Fewest
+pub mod Budget
+pub mod Least
+pub mod Sorted
+pub mod Packed
+pub mod First
+pub mod Refused
+pub mod Theorems
