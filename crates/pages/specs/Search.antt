@@ -1,4 +1,5 @@
--- The search: "placements are tried in that order, page by page, an open page before one new page, each placement costing one step, up to a budget". Definitions only.
+-- The search: "placements are tried in that order, page by page, an open page before one new page, each placement costing one step, up to a budget".
+-- Definitions only.
 use Rattle.std.specs.Prelude.{ℕ, ◌+◌, min, Bool, true, false, cond, List, [], ◌∷◌, length, take, ltb}
 use Rattle.std.specs.List.{flat_map, range_with_len, fold}
 use Rattle.pages.specs.declared.order.Image.{Image}
