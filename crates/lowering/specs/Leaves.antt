@@ -196,12 +196,12 @@ module _ (t : List ℕ) where
   -- ---- logic
 
   unfoldable pub compare_const : ℕ → ℕ → ℕ → Step
-  compare_const p o q = do
+  compare_const o p q = do
     k ← with_const (const_of (payload p))
     instr O.CMP_CONST o k q
 
   unfoldable pub equal_const : ℕ → ℕ → ℕ → Step
-  equal_const p o q = if_hash p
+  equal_const o p q = if_hash p
       (do
         k ← with_const (float_of (payload p))
         instr O.EQ_CONST o k q)
@@ -209,6 +209,10 @@ module _ (t : List ℕ) where
         still not_float_only
         k ← with_hash v
         instr O.EQ_HASH o k q
+
+  -- the form of an instruction whose second operand is the constant of the payload
+  unfoldable pub constant_form : ℕ → ℕ → ℕ → ℕ → Step
+  constant_form op sub p q = either (eqb op O.EQ) (equal_const sub p q) (compare_const sub p q)
 
   -- ---- control
 

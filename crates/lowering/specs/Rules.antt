@@ -25,7 +25,7 @@ use Rattle.lowering.specs.Parts.{each_next, where_found}
 unfoldable pub use Rattle.lowering.specs.Leaves.{among, no_variable, variable_of, name_kind, temp_kind, hashed, with_path, payload, rule, if_name, if_hash}
 unfoldable pub use Rattle.lowering.specs.Leaves.{if_math, if_query, load_context, load_temp, load_var, load, string_literal, resource, generic}
 unfoldable pub use Rattle.lowering.specs.Leaves.{member_put, array_put, longer, is_link, path_end, path_hashes, store_as, root_temp, root_var}
-unfoldable pub use Rattle.lowering.specs.Leaves.{store_member, store_temp, store_var, store, target_refusal, compare_const, equal_const}
+unfoldable pub use Rattle.lowering.specs.Leaves.{store_member, store_temp, store_var, store, target_refusal, compare_const, equal_const, constant_form}
 unfoldable pub use Rattle.lowering.specs.Leaves.{variable_temp, variable, leaves, leaf}
 
 -- ---- rules with operands: E lowers the node at a place with one level fewer, C does as the base of a member path, R a Return of a statement list
@@ -79,28 +79,17 @@ module _ (t : List ℕ) (E : ℕ → Bool → Step) (C : ℕ → NameRef → Boo
     still pushed
     E (next_at t a) l
 
-  unfoldable pub compare : ℕ → ℕ → Bool → Step
-  compare o p l = either (eqb (count_at t p) 0) (failed Refusal.Failed) do
+  -- a child and the constant of the payload, or two children and the instruction of both; the post is interned first
+  unfoldable pub paired : ℕ → ℕ → ℕ → Bool → Step
+  paired op sub p l = either (eqb (count_at t p) 0) (failed Refusal.Failed) do
     q ← with_post t p
     either (eqb (count_at t p) 1)
         (do
           E (first_at t p) l
-          compare_const t p o q)
+          constant_form t op sub p q)
         do
           binary (first_at t p) l
-          instr O.CMP o 0 q
-          still (popped 1)
-
-  unfoldable pub equal : ℕ → ℕ → Bool → Step
-  equal o p l = either (eqb (count_at t p) 0) (failed Refusal.Failed) do
-    q ← with_post t p
-    either (eqb (count_at t p) 1)
-        (do
-          E (first_at t p) l
-          equal_const t p o q)
-        do
-          binary (first_at t p) l
-          instr O.EQ o 0 q
+          instr op sub 0 q
           still (popped 1)
 
   -- m steps and the last operand, from the operand at a on
@@ -222,10 +211,10 @@ module _ (t : List ℕ) (E : ℕ → Bool → Step) (C : ℕ → NameRef → Boo
   unfoldable pub bracket : ℕ → Bool → Step
   bracket p l = either (eqb (count_at t p) 0) (failed Refusal.Failed) (E (first_at t p) l)
 
-  unfoldable pub unary : ℕ → ℕ → Bool → Step
-  unary op p l = either (eqb (count_at t p) 0) (failed Refusal.Failed) do
+  unfoldable pub unary : ℕ → ℕ → ℕ → Bool → Step
+  unary op sub p l = either (eqb (count_at t p) 0) (failed Refusal.Failed) do
     E (first_at t p) l
-    put_post t p op 0 0
+    put_post t p op sub 0
 
   -- m terms and the last, from the term at a on
   unfoldable pub terms : ℕ → ℕ → ℕ → Bool → Step
@@ -251,10 +240,11 @@ module _ (t : List ℕ) (E : ℕ → Bool → Step) (C : ℕ → NameRef → Boo
         terms p (count_at t p - 2) (next_at t a) l
         still (popped 1))
 
-  unfoldable pub mul : ℕ → Bool → Step
-  mul p l = either (ltb (count_at t p) 2) (failed Refusal.Failed) do
+  -- two children, and the instruction of both with the post behind them
+  unfoldable pub bounds : ℕ → ℕ → ℕ → Bool → Step
+  bounds op sub p l = either (ltb (count_at t p) 2) (failed Refusal.Failed) do
     binary (first_at t p) l
-    put_post t p O.MUL 0 0
+    put_post t p op sub 0
     still (popped 1)
 
   unfoldable pub div : ℕ → Bool → Step
@@ -292,10 +282,10 @@ module _ (t : List ℕ) (E : ℕ → Bool → Step) (C : ℕ → NameRef → Boo
       (Operator.HOST_MATH_VOLATILE, host_math Flag.RANDOM p l h)
       ∷ (Operator.HOST_MATH, host_math 0 p l h)
       ∷ (Operator.DIV, div p l h)
-      ∷ (Operator.MUL, mul p l h)
+      ∷ (Operator.MUL, bounds O.MUL 0 p l h)
       ∷ (Operator.ADD, add p l h)
-      ∷ (Operator.LOGICAL_NOT, unary O.NOT p l h)
-      ∷ (Operator.NEGATE, unary O.NEGATE p l h)
+      ∷ (Operator.LOGICAL_NOT, unary O.NOT 0 p l h)
+      ∷ (Operator.NEGATE, unary O.NEGATE 0 p l h)
       ∷ (Operator.LEFT_PARENTHESIS, bracket p l h)
       ∷ (Operator.LEFT_BRACKET, bracket p l h)
       ∷ (Operator.POINTER, pointer p l h)
@@ -307,12 +297,12 @@ module _ (t : List ℕ) (E : ℕ → Bool → Step) (C : ℕ → NameRef → Boo
       ∷ (Operator.NULL_COALESCING, coalesce p l h)
       ∷ (Operator.LOGICAL_OR, logic O.OR_STEP O.OR_LAST p l h)
       ∷ (Operator.LOGICAL_AND, logic O.AND_STEP O.AND_LAST p l h)
-      ∷ (Operator.LOGICAL_NOT_EQUAL, equal Sub.NE p l h)
-      ∷ (Operator.LOGICAL_EQUAL, equal Sub.EQ p l h)
-      ∷ (Operator.GREATER_THAN, compare Sub.GT p l h)
-      ∷ (Operator.GREATER_EQUAL, compare Sub.GE p l h)
-      ∷ (Operator.LESS_EQUAL, compare Sub.LE p l h)
-      ∷ (Operator.LESS_THAN, compare Sub.LT p l h)
+      ∷ (Operator.LOGICAL_NOT_EQUAL, paired O.EQ Sub.NE p l h)
+      ∷ (Operator.LOGICAL_EQUAL, paired O.EQ Sub.EQ p l h)
+      ∷ (Operator.GREATER_THAN, paired O.CMP Sub.GT p l h)
+      ∷ (Operator.GREATER_EQUAL, paired O.CMP Sub.GE p l h)
+      ∷ (Operator.LESS_EQUAL, paired O.CMP Sub.LE p l h)
+      ∷ (Operator.LESS_THAN, paired O.CMP Sub.LT p l h)
       ∷ (Operator.QUERY_FUNCTION, query p h)
       ∷ (Operator.MEMBER_ACCESSOR, member_read p l h)
       ∷ (Operator.ARRAY, array_element p l h)

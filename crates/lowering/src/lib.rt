@@ -19,7 +19,7 @@ ghost use Rattle.wire.specs.Bytes.{be8};
 ghost use Rattle.ast.specs.Node.{first_at, next_at};
 ghost use Rattle.program.specs.Image.{bit};
 ghost use Rattle.program.specs.Opcodes.{number_of};
-ghost use Rattle.program.specs.Subs.{comparison_of, equality_of, divisor_of};
+ghost use Rattle.program.specs.Subs.{divisor_of};
 ghost use Rattle.tree.specs.Nodes.{bytes};
 ghost use Rattle.lowering.specs.Held.{Held};
 ghost use Rattle.builder.specs.Done.{Did};
@@ -157,12 +157,12 @@ fn expr(b: &mut Builder<'_>, node: Node<'_>, inside: Inside)
         operators::ARRAY => element(b, node, n),
         operators::MEMBER_ACCESSOR => member(b, node, n),
         operators::QUERY_FUNCTION => query(b, node, n.levels),
-        operators::LESS_THAN => compare(b, node, Comparison::Lt, n),
-        operators::LESS_EQUAL => compare(b, node, Comparison::Le, n),
-        operators::GREATER_EQUAL => compare(b, node, Comparison::Ge, n),
-        operators::GREATER_THAN => compare(b, node, Comparison::Gt, n),
-        operators::LOGICAL_EQUAL => equal(b, node, Equality::Eq, n),
-        operators::LOGICAL_NOT_EQUAL => equal(b, node, Equality::Ne, n),
+        operators::LESS_THAN => paired(b, node, Opcode::Cmp, Comparison::Lt.into(), n),
+        operators::LESS_EQUAL => paired(b, node, Opcode::Cmp, Comparison::Le.into(), n),
+        operators::GREATER_EQUAL => paired(b, node, Opcode::Cmp, Comparison::Ge.into(), n),
+        operators::GREATER_THAN => paired(b, node, Opcode::Cmp, Comparison::Gt.into(), n),
+        operators::LOGICAL_EQUAL => paired(b, node, Opcode::Eq, Equality::Eq.into(), n),
+        operators::LOGICAL_NOT_EQUAL => paired(b, node, Opcode::Eq, Equality::Ne.into(), n),
         operators::LOGICAL_AND => logic(b, node, Opcode::AndStep, Opcode::AndLast, n),
         operators::LOGICAL_OR => logic(b, node, Opcode::OrStep, Opcode::OrLast, n),
         operators::NULL_COALESCING => coalesce(b, node, n),
@@ -174,10 +174,10 @@ fn expr(b: &mut Builder<'_>, node: Node<'_>, inside: Inside)
         operators::POINTER => pointer(b, node, n),
         operators::LEFT_BRACKET => par(b, node, n),
         operators::LEFT_PARENTHESIS => par(b, node, n),
-        operators::NEGATE => unary(b, node, Opcode::Negate, n),
-        operators::LOGICAL_NOT => unary(b, node, Opcode::Not, n),
+        operators::NEGATE => unary(b, node, Opcode::Negate, 0, n),
+        operators::LOGICAL_NOT => unary(b, node, Opcode::Not, 0, n),
         operators::ADD => add(b, node, n),
-        operators::MUL => mul(b, node, n),
+        operators::MUL => bounds(b, node, Opcode::Mul, 0, n),
         operators::DIV => div(b, node, n),
         operators::HOST_MATH => host_math(b, node, 0, n),
         operators::HOST_MATH_VOLATILE => host_math(b, node, Flags::RANDOM, n),
@@ -291,11 +291,11 @@ fn binary(b: &mut Builder<'_>, a: Node<'_>, inside: Inside)
     expr(b, a.next(), inside);
 }
 
-// `compare` and `equal` differ in instruction, type and what a constant becomes: one function over an enum of both takes 27 lines for 33, and 8 of specs/.
+// One child and the constant of the payload, or two children and the instruction of both; the post is interned first.
 #[cycle(expression)]
-#[tactic(auto, unfolding(crate::specs::Rules::compare))]
-fn compare(b: &mut Builder<'_>, node: Node<'_>, o: Comparison, inside: Inside)
-    ensures { Did b.old b.new (over node.entry inside.levels R.compare (comparison_of o) node.entry.at inside.looping) }
+#[tactic(auto, unfolding(crate::specs::Rules::paired))]
+fn paired(b: &mut Builder<'_>, node: Node<'_>, op: Opcode, sub: u8, inside: Inside)
+    ensures { Did b.old b.new (over node.entry inside.levels R.paired (number_of op) sub node.entry.at inside.looping) }
 {
     let count = node.count();
     if count == 0 {
@@ -305,30 +305,10 @@ fn compare(b: &mut Builder<'_>, node: Node<'_>, o: Comparison, inside: Inside)
     let a = node.first();
     if count == 1 {
         expr(b, a, inside);
-        return comparisons::compare_const(b, node, o, q);
+        return comparisons::constant_form(b, node, op, sub, q);
     }
     binary(b, a, inside);
-    instr(b, Opcode::Cmp, o.into(), 0, q);
-    pop(b, 1);
-}
-
-#[cycle(expression)]
-#[tactic(auto, unfolding(crate::specs::Rules::equal))]
-fn equal(b: &mut Builder<'_>, node: Node<'_>, o: Equality, inside: Inside)
-    ensures { Did b.old b.new (over node.entry inside.levels R.equal (equality_of o) node.entry.at inside.looping) }
-{
-    let count = node.count();
-    if count == 0 {
-        return b.failed(Refusal::Failed);
-    }
-    let q = post(b, node);
-    let a = node.first();
-    if count == 1 {
-        expr(b, a, inside);
-        return comparisons::equal_const(b, node, o, q);
-    }
-    binary(b, a, inside);
-    instr(b, Opcode::Eq, o.into(), 0, q);
+    instr(b, op, sub, 0, q);
     pop(b, 1);
 }
 
@@ -387,14 +367,14 @@ fn par(b: &mut Builder<'_>, node: Node<'_>, inside: Inside)
 
 #[cycle(expression)]
 #[tactic(auto, unfolding(crate::specs::Rules::unary))]
-fn unary(b: &mut Builder<'_>, node: Node<'_>, op: Opcode, inside: Inside)
-    ensures { Did b.old b.new (over node.entry inside.levels R.unary (number_of op) node.entry.at inside.looping) }
+fn unary(b: &mut Builder<'_>, node: Node<'_>, op: Opcode, sub: u8, inside: Inside)
+    ensures { Did b.old b.new (over node.entry inside.levels R.unary (number_of op) sub node.entry.at inside.looping) }
 {
     if node.count() == 0 {
         return b.failed(Refusal::Failed);
     }
     expr(b, node.first(), inside);
-    put_post(b, node, op, 0, 0);
+    put_post(b, node, op, sub, 0);
 }
 
 // The n-ary +: the first term pushed, every further one added to it, the last with the post.
@@ -434,16 +414,17 @@ fn terms(b: &mut Builder<'_>, node: Node<'_>, m: u16, inside: Inside)
     put_post(b, node, Opcode::AddLast, 0, 0);
 }
 
+// Two children, and the instruction of both with the post behind them.
 #[cycle(expression)]
-#[tactic(auto, unfolding(crate::specs::Rules::mul))]
-fn mul(b: &mut Builder<'_>, node: Node<'_>, inside: Inside)
-    ensures { Did b.old b.new (lowered_as node.entry inside R.mul) }
+#[tactic(auto, unfolding(crate::specs::Rules::bounds))]
+fn bounds(b: &mut Builder<'_>, node: Node<'_>, op: Opcode, sub: u8, inside: Inside)
+    ensures { Did b.old b.new (over node.entry inside.levels R.bounds (number_of op) sub node.entry.at inside.looping) }
 {
     if node.count() < 2 {
         return b.failed(Refusal::Failed);
     }
     binary(b, node.first(), inside);
-    put_post(b, node, Opcode::Mul, 0, 0);
+    put_post(b, node, op, sub, 0);
     pop(b, 1);
 }
 

@@ -16,9 +16,7 @@ use Rattle.semantics.specs.Pieces.{Lowering, put, failing, flagged, with_const, 
 use Rattle.semantics.specs.Lowering as D
 use Rattle.semantics.specs.Lowering.{Lowerings}
 use Rattle.payload.specs.declared.NameRef.{NameRef}
-use Rattle.payload.specs.Payloads.{payload_ref_at}
 use Rattle.builder.specs.Steps as W
-use Rattle.lowering.specs.Payloads as Q
 use Rattle.lowering.specs.Parts as L
 use Rattle.lowering.specs.Parts.{Step}
 use Rattle.builder.specs.Steps.{still}
@@ -84,26 +82,33 @@ module _ (tree : List ℕ) (E : ℕ → Bool → Step) (C : ℕ → NameRef → 
   -- ---- the rules
 
   module _ (p : ℕ) (xs : List Lowerings) (k : Children tree E C Z xs (count_at tree p) (first_at tree p)) {c : Counts} (l : Bool) where
-    pub compare_does : (o : ℕ) → Does tree (P.some xs (failing 7) λ a ys. with_post (L.post_bits tree p) λ q. P.some ys (a.expr l ⨾ with_const (P.const_of (payload_at tree p)) (λ k. put (N.plain (N.cmp_const o k q)))) λ b zs. pushed (a.expr l) (b.expr l ⨾ put (N.taking (N.cmp o q)))) c (R.compare tree E C Z o p l)
-    unfolding R.compare R.compare_const word_of
-    compare_does o = some_rel tree E C Z c _ (failing_does Refusal.Failed) _ xs (count_at tree p) (first_at tree p) k (λ a ys j e ca ks. post_does (L.post_bits tree p) (λ q.
-        subst (λ (t : Bool). Does tree (P.some ys (a.expr l ⨾ with_const (P.const_of (payload_at tree p)) (λ k. put (N.plain (N.cmp_const o k q)))) λ b zs. pushed (a.expr l) (b.expr l ⨾ put (N.taking (N.cmp o q)))) c (λ g. cond t (L.with_const (Q.const_of (payload_ref_at tree p)) (λ k. L.instr 24 o k q) (E (first_at tree p) l g)) (still (Y.popped 1) (L.instr 23 o 0 q (R.binary tree E C Z (first_at tree p) l g))))) (one_left (count_at tree p) j e)
-        (some_rel tree E C Z c _
-        (thens (ca.expr_is l c) (subst (λ (v : ℕ). Does tree (with_const (P.const_of (payload_at tree p)) (λ k. put (N.plain (N.cmp_const o k q)))) c (L.with_const v (λ k. L.instr 24 o k q))) (const_same tree p) (const_does (P.const_of (payload_at tree p)) (λ i. instr_does (N.plain (N.cmp_const o i q)) refl))))
-        (λ b zs. pushed (a.expr l) (b.expr l ⨾ put (N.taking (N.cmp o q)))) ys j (next_at tree (first_at tree p)) ks (λ b zs i d cb ls. binary_does (first_at tree p) l ca cb (instr_does (N.taking (N.cmp o q)) refl)))))
+    -- f the form with the constant of the payload, j the instruction of two children
+    pub paired_does : (f : ℕ → Lowering) (j : ℕ → N.Taking) (op sub : ℕ) → ((q : ℕ) → Does tree (f q) c (R.constant_form tree op sub p q)) → ((q : ℕ) → word_of (N.taking (j q)) ≡ word op sub 0 q)
+        → Does tree (P.some xs (failing 7) λ a ys. with_post (L.post_bits tree p) λ q. P.some ys (a.expr l ⨾ f q) λ b zs. pushed (a.expr l) (b.expr l ⨾ put (N.taking (j q)))) c (R.paired tree E C Z op sub p l)
+    unfolding R.paired
+    paired_does f j op sub df dj = some_rel tree E C Z c _ (failing_does Refusal.Failed) _ xs (count_at tree p) (first_at tree p) k λ a ys m e ca ks. post_does (L.post_bits tree p) λ q.
+        subst (λ (t : Bool). Does tree (P.some ys (a.expr l ⨾ f q) λ b zs. pushed (a.expr l) (b.expr l ⨾ put (N.taking (j q)))) c
+        (L.either t (λ h. R.constant_form tree op sub p q (E (first_at tree p) l h)) (λ h. still (Y.popped 1) (L.instr op sub 0 q (R.binary tree E C Z (first_at tree p) l h))))) (one_left (count_at tree p) m e)
+        (some_rel tree E C Z c _ (thens (ca.expr_is l c) (df q)) _ ys m (next_at tree (first_at tree p)) ks
+        λ b zs i d cb ls. binary_does (first_at tree p) l ca cb (instr_does (N.taking (j q)) (dj q)))
 
-    equal_const_lem : (o q : ℕ) → Does tree (D.equal_const o (payload_at tree p) q) c (R.equal_const tree p o q)
+    compare_const_lem : (o q : ℕ) → Does tree (with_const (P.const_of (payload_at tree p)) (λ k. put (N.plain (N.cmp_const o k q)))) c (R.compare_const tree o p q)
+    unfolding R.compare_const word_of
+    compare_const_lem o q = rw (← const_same tree p) (const_does (P.const_of (payload_at tree p)) (λ i. instr_does (N.plain (N.cmp_const o i q)) refl))
+
+    equal_const_lem : (o q : ℕ) → Does tree (D.equal_const o (payload_at tree p) q) c (R.equal_const tree o p q)
     unfolding D.equal_const R.equal_const word_of
     equal_const_lem o q = as_hash_lem p
         (rw (← float_same tree p) (const_does (P.float_of (payload_at tree p)) (λ i. instr_does (N.plain (N.eq_const o i q)) refl)))
         (λ v. flagged_does S.not_float_only Y.not_float_only not_float_move (hash_does v (λ i. instr_does (N.plain (N.eq_hash o i q)) refl)))
 
-    pub equal_does : (o : ℕ) → Does tree (P.some xs (failing 7) λ a ys. with_post (L.post_bits tree p) λ q. P.some ys (a.expr l ⨾ D.equal_const o (payload_at tree p) q) λ b zs. pushed (a.expr l) (b.expr l ⨾ put (N.taking (N.eq o q)))) c (R.equal tree E C Z o p l)
-    unfolding R.equal word_of
-    equal_does o = some_rel tree E C Z c _ (failing_does Refusal.Failed) _ xs (count_at tree p) (first_at tree p) k (λ a ys j e ca ks. post_does (L.post_bits tree p) (λ q.
-        subst (λ (t : Bool). Does tree (P.some ys (a.expr l ⨾ D.equal_const o (payload_at tree p) q) λ b zs. pushed (a.expr l) (b.expr l ⨾ put (N.taking (N.eq o q)))) c (λ g. cond t (R.equal_const tree p o q (E (first_at tree p) l g)) (still (Y.popped 1) (L.instr 25 o 0 q (R.binary tree E C Z (first_at tree p) l g))))) (one_left (count_at tree p) j e)
-        (some_rel tree E C Z c _ (thens (ca.expr_is l c) (equal_const_lem o q))
-        (λ b zs. pushed (a.expr l) (b.expr l ⨾ put (N.taking (N.eq o q)))) ys j (next_at tree (first_at tree p)) ks (λ b zs i d cb ls. binary_does (first_at tree p) l ca cb (instr_does (N.taking (N.eq o q)) refl)))))
+    pub compare_does : (o : ℕ) → Does tree (P.some xs (failing 7) λ a ys. with_post (L.post_bits tree p) λ q. P.some ys (a.expr l ⨾ with_const (P.const_of (payload_at tree p)) (λ k. put (N.plain (N.cmp_const o k q)))) λ b zs. pushed (a.expr l) (b.expr l ⨾ put (N.taking (N.cmp o q)))) c (R.paired tree E C Z 23 o p l)
+    unfolding R.constant_form word_of
+    compare_does o = paired_does _ (N.cmp o) 23 o (compare_const_lem o) (λ q. refl)
+
+    pub equal_does : (o : ℕ) → Does tree (P.some xs (failing 7) λ a ys. with_post (L.post_bits tree p) λ q. P.some ys (a.expr l ⨾ D.equal_const o (payload_at tree p) q) λ b zs. pushed (a.expr l) (b.expr l ⨾ put (N.taking (N.eq o q)))) c (R.paired tree E C Z 25 o p l)
+    unfolding R.constant_form word_of
+    equal_does o = paired_does _ (N.eq o) 25 o (equal_const_lem o) (λ q. refl)
 
     pub and_does : Does tree (P.some xs (failing 7) λ a ys. with_post (L.post_bits tree p) λ q. D.logic (N.and_step q) (N.and_last q) a ys l) c (R.logic tree E C Z 28 30 p l)
     unfolding R.logic word_of
@@ -119,21 +124,25 @@ module _ (tree : List ℕ) (E : ℕ → Bool → Step) (C : ℕ → NameRef → 
     unfolding R.bracket
     bracket_does = one_rel tree E C Z c _ (failing_does Refusal.Failed) _ xs (count_at tree p) (first_at tree p) k (λ a ca. ca.expr_is l c)
 
-    pub unary_does : (i : ℕ → N.Plain) (op : ℕ) → ((q : ℕ) → word_of (N.plain (i q)) ≡ word op 0 0 q) → Does tree (P.one xs (failing 7) λ a. a.expr l ⨾ with_post (L.post_bits tree p) (λ q. put (N.plain (i q)))) c (R.unary tree E C Z op p l)
+    pub unary_does : (i : ℕ → N.Plain) (op sub : ℕ) → ((q : ℕ) → word_of (N.plain (i q)) ≡ word op sub 0 q) → Does tree (P.one xs (failing 7) λ a. a.expr l ⨾ with_post (L.post_bits tree p) (λ q. put (N.plain (i q)))) c (R.unary tree E C Z op sub p l)
     unfolding R.unary
-    unary_does i op e = one_rel tree E C Z c _ (failing_does Refusal.Failed) _ xs (count_at tree p) (first_at tree p) k (λ a ca. thens (ca.expr_is l c) (put_post_lem p (λ q. N.plain (i q)) op 0 0 e))
+    unary_does i op sub e = one_rel tree E C Z c _ (failing_does Refusal.Failed) _ xs (count_at tree p) (first_at tree p) k (λ a ca. thens (ca.expr_is l c) (put_post_lem p (λ q. N.plain (i q)) op sub 0 e))
 
-    pub negate_does : Does tree (P.one xs (failing 7) λ a. a.expr l ⨾ with_post (L.post_bits tree p) (λ q. put (N.plain (N.negate q)))) c (R.unary tree E C Z 15 p l)
+    pub negate_does : Does tree (P.one xs (failing 7) λ a. a.expr l ⨾ with_post (L.post_bits tree p) (λ q. put (N.plain (N.negate q)))) c (R.unary tree E C Z 15 0 p l)
     unfolding word_of
-    negate_does = unary_does N.negate 15 (λ q. refl)
+    negate_does = unary_does N.negate 15 0 (λ q. refl)
 
-    pub not_does : Does tree (P.one xs (failing 7) λ a. a.expr l ⨾ with_post (L.post_bits tree p) (λ q. put (N.plain (N.not q)))) c (R.unary tree E C Z 16 p l)
+    pub not_does : Does tree (P.one xs (failing 7) λ a. a.expr l ⨾ with_post (L.post_bits tree p) (λ q. put (N.plain (N.not q)))) c (R.unary tree E C Z 16 0 p l)
     unfolding word_of
-    not_does = unary_does N.not 16 (λ q. refl)
+    not_does = unary_does N.not 16 0 (λ q. refl)
 
-    pub mul_does : Does tree (P.two xs (failing 7) λ a b. pushed (a.expr l) (b.expr l ⨾ with_post (L.post_bits tree p) (λ q. put (N.taking (N.mul q))))) c (R.mul tree E C Z p l)
-    unfolding R.mul word_of
-    mul_does = two_rel tree E C Z c _ (failing_does Refusal.Failed) _ xs (count_at tree p) (first_at tree p) k (λ a b ca cb. binary_does (first_at tree p) l ca cb (put_post_lem p (λ q. N.taking (N.mul q)) 19 0 0 (λ q. refl)))
+    pub bounds_does : (i : ℕ → N.Taking) (op sub : ℕ) → ((q : ℕ) → word_of (N.taking (i q)) ≡ word op sub 0 q) → Does tree (P.two xs (failing 7) λ a b. pushed (a.expr l) (b.expr l ⨾ with_post (L.post_bits tree p) (λ q. put (N.taking (i q))))) c (R.bounds tree E C Z op sub p l)
+    unfolding R.bounds
+    bounds_does i op sub e = two_rel tree E C Z c _ (failing_does Refusal.Failed) _ xs (count_at tree p) (first_at tree p) k (λ a b ca cb. binary_does (first_at tree p) l ca cb (put_post_lem p (λ q. N.taking (i q)) op sub 0 e))
+
+    pub mul_does : Does tree (P.two xs (failing 7) λ a b. pushed (a.expr l) (b.expr l ⨾ with_post (L.post_bits tree p) (λ q. put (N.taking (N.mul q))))) c (R.bounds tree E C Z 19 0 p l)
+    unfolding word_of
+    mul_does = bounds_does N.mul 19 0 (λ q. refl)
 
     pub div_does : Does tree (P.two xs (failing 7) λ a b. b.expr l ⨾ guarded (N.div_guard (eqb (be8 tree 0 6) 1)) operand+ (a.expr l ⨾ with_post (L.post_bits tree p) (λ q. put (N.taking (N.div q))))) c (R.div tree E C Z p l)
     unfolding R.div word_of

@@ -32,11 +32,8 @@ decreases-rhs l = 200000 * l.inside.levels + 70000
 abbrev pub decreases-binary : goal.decreases-binary
 decreases-binary l = 200000 * l.inside.levels + 70000
 
-abbrev pub decreases-compare : goal.decreases-compare
-decreases-compare l = 200000 * l.inside.levels + 80000
-
-abbrev pub decreases-equal : goal.decreases-equal
-decreases-equal l = 200000 * l.inside.levels + 80000
+abbrev pub decreases-paired : goal.decreases-paired
+decreases-paired l = 200000 * l.inside.levels + 80000
 
 abbrev pub decreases-logic : goal.decreases-logic
 decreases-logic l = 200000 * l.inside.levels + 80000
@@ -56,8 +53,8 @@ decreases-add l = 200000 * l.inside.levels + 80000
 abbrev pub decreases-terms : goal.decreases-terms
 decreases-terms l = 200000 * l.inside.levels + 70000
 
-abbrev pub decreases-mul : goal.decreases-mul
-decreases-mul l = 200000 * l.inside.levels + 80000
+abbrev pub decreases-bounds : goal.decreases-bounds
+decreases-bounds l = 200000 * l.inside.levels + 80000
 
 abbrev pub decreases-div : goal.decreases-div
 decreases-div l = 200000 * l.inside.levels + 80000
