@@ -1,6 +1,6 @@
 -- The image that a workspace stands for is the image of the program that it holds. Assumes nothing.
 use mathlib.Core.Path.{◌≡◌, refl, ap, ap₂, sym, ◌∙◌}
-use mathlib.Core.List.{List, [], ◌∷◌, ◌++◌, append_assoc}
+use mathlib.Core.List.{List, [], ◌∷◌, ◌++◌, append_assoc, map}
 use Prim.Native.Nat.{ℕ, suc, ◌+◌, ◌*◌, ◌/◌, ◌%◌, ◌^◌, ◌<◌}
 use native.Mathlib.Numerals.{add-one}
 use native.Mathlib.Omega.{arith}
@@ -10,6 +10,7 @@ use Rattle.wire.specs.Reader.{entries, list}
 use Rattle.numeric.specs.Post.{identity}
 use Rattle.ast.specs.Tree.{Name}
 use Rattle.program.specs.Instruction.{Instruction, halt}
+use Rattle.program.specs.Counts.{numbers}
 use Rattle.program.specs.Program.{MemberEntry, StoreRoot, root_var, root_temp, root_other, MemberStore, QueryCall, Program}
 use Rattle.program.specs.Image.{bit, word_of, put_instruction, put_text, put_post, put_name, put_member, put_root, put_store, put_call, put_depths, put_closing, put_program, image}
 use Rattle.program.specs.Targets.{shift_of}
@@ -21,6 +22,12 @@ use Rattle.workspace.specs.Words.{plus}
 use Rattle.card.specs.Image.{word_entry, half_entry, instruction_bytes, instruction_entry, dotted_bytes, text_bytes, hash_bytes, name_bytes, name_entry, member_bytes, member_entry, store_bytes, store_at, store_entry, call_bytes, call_at, call_entry, code_section, consts_section, posts_section, hashes_section, names_section, temps_section, members_section, stores_section, calls_section, closing_bytes, sections_of, body_of, image_of}
 use Rattle.card.specs.Holds.{Each, InstructionIs, NameIs, MemberIs, root_kind, StoreIs, CallIs, Holds}
 use Rattle.card.proofs.Shown.{number, every_at, counted, words_are, posts_are, hash_is, hashes_are, text_is, dotted_is}
+
+-- numbers of k bytes, one behind the other
+numbers_are : (k : ℕ) (xs : List ℕ) (r : List ℕ) → entries (be k) xs r ≡ joined (map (λ n. be k n []) xs) r
+unfolding entries joined
+numbers_are k [] r = refl
+numbers_are k (x ∷ xs) r = number k x _ ∙ ap (λ l. be k x [] ++ l) (numbers_are k xs r)
 
 -- an instruction
 pub instruction_is : (ws : List ℕ) (base k : ℕ) (i : Instruction) → InstructionIs ws base k i → FitInstruction i → (r : List ℕ) → put_instruction i r ≡ instruction_bytes base (get_or ws k 0) (get_or ws (k + 1) 0) ++ r
@@ -184,11 +191,8 @@ module _ (tree ws : List ℕ) (c : Sections) (P : Program) (q : Holds tree ws c 
   closing_is : put_closing P [] ≡ closing_bytes c
   unfolding put_closing put_depths closing_bytes
   closing_is =
-      number 2 P.depths.operands _ ∙ ap₂ (λ v l. be 2 v [] ++ l) (sym q.stack)
-      (number 2 P.depths.loops _ ∙ ap₂ (λ v l. be 2 v [] ++ l) (sym q.loops)
-      (number 2 P.depths.handlers _ ∙ ap₂ (λ v l. be 2 v [] ++ l) (sym q.handlers)
-      (number 2 P.flags _ ∙ ap₂ (λ v b. be 2 v [] ++ be 1 (bit b) []) (sym q.flags) (sym q.float_loop))))
-      ∙ simp append_assoc
+      numbers_are 2 (numbers P.depths) _ ∙ ap₂ (λ d r. joined (map (λ n. be 2 n []) (numbers d)) r) (sym q.depths)
+      (number 2 P.flags _ ∙ ap₂ (λ v b. be 2 v [] ++ be 1 (bit b) []) (sym q.flags) (sym q.float_loop))
 
   body_is : put_program P [] ≡ body_of tree ws c
   unfolding put_program body_of sections_of joined

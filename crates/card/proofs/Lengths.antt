@@ -8,7 +8,7 @@ use lib.ListN.{length, length-append}
 use Rattle.wire.specs.Bytes.{be}
 use Rattle.card.specs.declared.Sections.{Sections}
 use Rattle.workspace.specs.Layout.{TEMPS}
-use Rattle.card.specs.Written.{cat}
+use Rattle.card.specs.Written.{cat, joined}
 pub use Rattle.card.proofs.Join.{run_length, field_length, no_entries, entry_more}
 use Rattle.card.specs.Image.{word_entry, half_entry, byte_entry, instruction_bytes, instruction_entry, code_section, consts_section, posts_section, hashes_section, temps_section, closing_bytes}
 
@@ -61,5 +61,5 @@ unfolding temps_section
 temps ws n = let h : length (cat (half_entry ws TEMPS) n) ≡ 2 * n = alike _ 2 n (λ i. field_length 2 _) in simp (length-append, field_length) (omega arith)
 
 pub closing : (c : Sections) → length (closing_bytes c) ≡ 9
-unfolding closing_bytes
+unfolding closing_bytes joined
 closing c = simp (length-append, field_length)

@@ -1,12 +1,12 @@
 -- The program image that a workspace, its sections' counts and a tree image stand for, and what is answered and written. Definitions only.
-use Rattle.std.specs.Prelude.{List, [], ◌∷◌, ◌++◌, cond, ℕ, ◌+◌, ◌*◌, ◌/◌, ◌%◌, length, get_or, drop, leb, Result, Ok, Err}
+use Rattle.std.specs.Prelude.{List, [], ◌∷◌, ◌++◌, map, cond, ℕ, ◌+◌, ◌*◌, ◌/◌, ◌%◌, length, get_or, drop, leb, Result, Ok, Err}
 use Rattle.answers.specs.declared.refusals.Refusal.{Refusal}
 use Rattle.answers.specs.declared.refusals.Refusal.TheVariants.{SmallOutput}
 use Rattle.wire.specs.Bytes.{be8, be}
 use Rattle.numeric.specs.Post.{identity}
 use Rattle.program.specs.Image.{bit}
 use Rattle.program.specs.Targets.{shift_of}
-use Rattle.program.specs.declared.Depths.{Depths}
+use Rattle.program.specs.Counts.{counts_of, numbers}
 use Rattle.workspace.specs.Layout.{OPEN, FINISHED, CONSTS, POSTS, HASHES, NAMES, TEMPS, MEMBERS, STORES, PATHS, CALLS, ARGUMENTS}
 use Rattle.workspace.specs.Words.{plus}
 use Rattle.card.specs.Written.{cat, joined}
@@ -107,11 +107,8 @@ unfoldable pub calls_section : List ℕ → ℕ → ℕ → List ℕ
 calls_section ws base n = be 4 n [] ++ cat (call_entry ws base) n
 
 -- 01, The program image: "Then stack, loops, handlers (2 each), flags (2), float_loop (1)."
-abbrev pub depths_bytes : Depths → List ℕ
-depths_bytes d = be 2 d.stack [] ++ be 2 d.loops [] ++ be 2 d.handlers []
-
 unfoldable pub closing_bytes : Sections → List ℕ
-closing_bytes c = depths_bytes c.depths ++ be 2 c.flags [] ++ be 1 (bit c.float_loop) []
+closing_bytes c = joined (map (λ n. be 2 n []) (numbers (counts_of c.depths))) (be 2 c.flags [] ++ be 1 (bit c.float_loop) [])
 
 -- the nine sections, code to calls
 unfoldable pub sections_of : List ℕ → List ℕ → Sections → List (List ℕ)

@@ -80,7 +80,7 @@ impl Writer<'_> {
         self.all(&hashes, 2 * usize::from(n));
     }
 
-    #[tactic(auto, using(crate::proofs::Join::writing), unfolding(crate::specs::Image::closing_bytes, program::specs::Image::bit))]
+    #[tactic(auto, using(crate::proofs::Join::writing), unfolding(crate::specs::Image::closing_bytes, crate::specs::Written::joined, program::specs::Image::bit))]
     fn closing(&mut self, c: Sections)
         requires { Room self.old 9 }
         ensures { Puts self.old self.new (closing_bytes c) 9 }

@@ -1,7 +1,22 @@
 -- The depth counters: what each call makes of them. Definitions only.
 use Rattle.std.specs.Prelude.{ℕ, ◌-◌, max}
+use Rattle.program.specs.declared.Depths.{Depths}
 use Rattle.workspace.specs.Counts.{sum}
 use Rattle.depth.specs.declared.Depth.{Depth}
+
+-- a counter: its number, and another number in its place
+pub record Counter : Type 0 where
+  pub of : Depths → ℕ
+  pub set : ℕ → Depths → Depths
+
+abbrev pub stack : Counter
+stack = record { of = λ d. d.stack; set = λ n d. record d { stack = n } }
+
+abbrev pub loops : Counter
+loops = record { of = λ d. d.loops; set = λ n d. record d { loops = n } }
+
+abbrev pub handlers : Counter
+handlers = record { of = λ d. d.handlers; set = λ n d. record d { handlers = n } }
 
 -- one more, up to what 16 bits hold; k fewer, down to none
 abbrev pub raised : ℕ → ℕ
@@ -10,30 +25,27 @@ raised n = sum n 1
 abbrev pub lowered : ℕ → ℕ → ℕ
 lowered n k = n - k
 
+abbrev pub entered : Counter → Depth → Depth
+entered c d = record { now = c.set (raised (c.of d.now)) d.now; max = c.set (max (c.of d.max) (raised (c.of d.now))) d.max }
+
+abbrev pub left : Counter → ℕ → Depth → Depth
+left c k d = record d { now = c.set (lowered (c.of d.now) k) d.now }
+
 -- one more operand on the stack; k fewer
 abbrev pub pushed : Depth → Depth
-pushed d = record {
-  now = record { stack = raised d.now.stack; loops = d.now.loops; handlers = d.now.handlers };
-  max = record { stack = max d.max.stack (raised d.now.stack); loops = d.max.loops; handlers = d.max.handlers };
-}
+pushed = entered stack
 
 abbrev pub popped : Depth → ℕ → Depth
-popped d k = record { now = record { stack = lowered d.now.stack k; loops = d.now.loops; handlers = d.now.handlers }; max = d.max }
+popped d k = left stack k d
 
 abbrev pub loop_entered : Depth → Depth
-loop_entered d = record {
-  now = record { stack = d.now.stack; loops = raised d.now.loops; handlers = d.now.handlers };
-  max = record { stack = d.max.stack; loops = max d.max.loops (raised d.now.loops); handlers = d.max.handlers };
-}
+loop_entered = entered loops
 
 abbrev pub loop_left : Depth → Depth
-loop_left d = record { now = record { stack = d.now.stack; loops = lowered d.now.loops 1; handlers = d.now.handlers }; max = d.max }
+loop_left = left loops 1
 
 abbrev pub handler_entered : Depth → Depth
-handler_entered d = record {
-  now = record { stack = d.now.stack; loops = d.now.loops; handlers = raised d.now.handlers };
-  max = record { stack = d.max.stack; loops = d.max.loops; handlers = max d.max.handlers (raised d.now.handlers) };
-}
+handler_entered = entered handlers
 
 abbrev pub handler_left : Depth → Depth
-handler_left d = record { now = record { stack = d.now.stack; loops = d.now.loops; handlers = lowered d.now.handlers 1 }; max = d.max }
+handler_left = left handlers 1

@@ -11,7 +11,7 @@ use Rattle.program.specs.Opcodes as O
 use Rattle.program.specs.Subs as Sub
 use Rattle.program.specs.Image.{bit}
 use Rattle.payload.specs.declared.NameRef.{NameRef}
-use Rattle.program.specs.declared.Depths.{Depths}
+use Rattle.program.specs.declared.TheConstants.Depths.{NOTHING_OPEN}
 use Rattle.lowering.specs.Held.{State, Held}
 use Rattle.builder.specs.Steps.{still, failed, pushed}
 use Rattle.lowering.specs.Pools.{Found, after, constant}
@@ -335,9 +335,6 @@ module _ (t : List ℕ) where
   abbrev pub under : {X : Type 0} → ℕ → ((ℕ → Bool → Step) → (ℕ → NameRef → Bool → Step) → (ℕ → Bool → Step) → X) → X
   under n f = f (expr t n) (chain t n) (returned t n)
 
-abbrev pub nothing_open : Depths
-nothing_open = record { stack = 0; loops = 0; handlers = 0 }
-
 -- nothing is lowered yet
 abbrev pub start : State
 start = record {
@@ -355,7 +352,7 @@ start = record {
   paths = 0;
   calls = 0;
   arguments = 0;
-  depth = record { now = nothing_open; max = nothing_open };
+  depth = record { now = NOTHING_OPEN; max = NOTHING_OPEN };
   flags = Flag.FLOAT_ONLY;
   float_loop = true;
   refusal = None;

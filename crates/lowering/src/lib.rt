@@ -68,16 +68,6 @@ pub fn lower(tree: &[u8], ws: &mut [u32]) -> State<Refusal>
     b.state
 }
 
-fn nothing_open() -> Depths
-    ensures { result ≡ R.nothing_open }
-{
-    Depths {
-        stack: 0,
-        loops: 0,
-        handlers: 0,
-    }
-}
-
 // Nothing is lowered yet.
 fn start() -> State<Refusal>
     ensures { result ≡ R.start }
@@ -98,8 +88,8 @@ fn start() -> State<Refusal>
         calls: 0,
         arguments: 0,
         depth: Depth {
-            now: nothing_open(),
-            max: nothing_open(),
+            now: Depths::NOTHING_OPEN,
+            max: Depths::NOTHING_OPEN,
         },
         flags: Flags::FLOAT_ONLY,
         float_loop: true,

@@ -8,6 +8,7 @@ use Rattle.wire.specs.Bytes.{be}
 use Rattle.wire.proofs.Numbers.{be_length}
 use Rattle.wire.specs.Reader.{entries, list}
 use Rattle.ast.specs.Tree.{Name}
+use Rattle.program.specs.Counts.{numbers}
 use Rattle.program.specs.Program.{MemberEntry, root_var, root_temp, root_other, MemberStore, QueryCall, Program}
 use Rattle.program.specs.Image.{bit, word_of, put_instruction, put_text, put_post, put_name, put_member, put_root, put_store, put_call, put_depths, put_closing, put_program, image}
 
@@ -98,9 +99,7 @@ call_takes c r =
 -- the closing fields
 depths_take : Takes put_depths (λ d. 6)
 unfolding put_depths
-depths_take d r =
-    let s = be 2 d.handlers r in
-    omega (arith, be_length 2 d.operands (be 2 d.loops s), be_length 2 d.loops s, be_length 2 d.handlers r)
+depths_take d = entries_take (be 2) (λ v. 2) (be_length 2) (numbers d)
 
 closing_takes : Takes put_closing (λ P. 9)
 unfolding put_closing

@@ -6,7 +6,7 @@ use Prim.Native.Nat.{ℕ, ◌^◌, ◌<◌}
 use native.Mathlib.Omega.{arith}
 use lib.ListN.{length}
 use Rattle.wire.specs.Bytes.{be}
-use Rattle.wire.specs.Reader.{Got, got, u, list, lists}
+use Rattle.wire.specs.Reader.{Got, got, u, entries, list, lists}
 use Rattle.wire.proofs.ReadBack.{Back, All, u_back, and_back, list_back}
 use Rattle.numeric.specs.Post.{Post}
 use Rattle.ast.specs.Tree.{Name}
@@ -68,8 +68,8 @@ unfolding put_call get_call
 call_back c h r = and_back _ _ (u_back 2 c.index h.index _) (and_back _ _ (u_back 1 c.impl h.impl _) (and_back _ _ (listed_back (be 4) (u 4) (u_back 4) 2 c.starts h.starts r) refl))
 
 depths_back : (d : Counts) → FitCounts d → Back put_depths get_depths d
-unfolding put_depths get_depths
-depths_back d h r = and_back _ _ (u_back 2 d.operands h.operands _) (and_back _ _ (u_back 2 d.loops h.loops _) (and_back _ _ (u_back 2 d.handlers h.handlers r) refl))
+unfolding put_depths get_depths entries
+depths_back d h r = and_back _ _ (u_back 2 d.operands h.0 _) (and_back _ _ (u_back 2 d.loops h.1.0 _) (and_back _ _ (u_back 2 d.handlers h.1.1.0 r) refl))
 
 bit_small : (b : Bool) → Below 1 (bit b)
 unfolding bit

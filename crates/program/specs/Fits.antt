@@ -3,7 +3,8 @@ use Rattle.std.specs.Prelude.{List, [], ◌∷◌, ℕ, ◌^◌, ◌<◌, length
 use Rattle.numeric.specs.Post.{Post}
 use Rattle.ast.specs.Tree.{Name}
 use Rattle.program.specs.Instruction.{Instruction}
-use Rattle.program.specs.Program.{Counts, MemberEntry, StoreRoot, root_var, root_temp, root_other, MemberStore, QueryCall, Program}
+use Rattle.program.specs.Counts.{Counts, numbers}
+use Rattle.program.specs.Program.{MemberEntry, StoreRoot, root_var, root_temp, root_other, MemberStore, QueryCall, Program}
 use Rattle.program.specs.Image.{word_of}
 
 -- v fits k bytes
@@ -52,10 +53,8 @@ pub record FitCall (c : QueryCall) : Type 0 where
   pub impl : Below 1 c.impl
   pub starts : Listed (Below 4) 2 c.starts
 
-pub record FitCounts (d : Counts) : Type 0 where
-  pub operands : Below 2 d.operands
-  pub loops : Below 2 d.loops
-  pub handlers : Below 2 d.handlers
+abbrev pub FitCounts : Counts → Type 0
+FitCounts d = Every (Below 2) (numbers d)
 
 pub record FitProgram (P : Program) : Type 0 where
   pub code : Listed FitInstruction 4 P.code

@@ -1,12 +1,13 @@
 -- The program image: its bytes, and the program that is read in bytes. Definitions only.
 use Rattle.std.specs.Prelude.{Bool, true, false, List, [], ◌∷◌, ℕ, zero, suc, length, get_or}
 use Rattle.wire.specs.Bytes.{be}
-use Rattle.wire.specs.Reader.{Got, got, ◌>>=◌, ◌and◌, u, list, lists}
+use Rattle.wire.specs.Reader.{Got, got, ◌>>=◌, ◌and◌, u, entries, list, lists}
 use Rattle.numeric.specs.Post.{Post}
 use Rattle.ast.specs.Tree.{Name}
 use Rattle.program.specs.Instruction as I
 use Rattle.program.specs.Instruction.{Instruction}
-use Rattle.program.specs.Program.{Counts, MemberEntry, StoreRoot, root_var, root_temp, root_other, MemberStore, QueryCall, Program}
+use Rattle.program.specs.Counts.{Counts, numbers}
+use Rattle.program.specs.Program.{MemberEntry, StoreRoot, root_var, root_temp, root_other, MemberStore, QueryCall, Program}
 
 -- 01, The program image: "An instruction is 8 bytes: opcode, sub, A (4), B (2)."
 pub record Word : Type 0 where
@@ -200,7 +201,7 @@ get_call = do
 
 -- 01, The program image: "Then stack, loops, handlers (2 each), flags (2), float_loop (1)."
 unfoldable pub put_depths : Counts → List ℕ → List ℕ
-put_depths d r = be 2 d.operands (be 2 d.loops (be 2 d.handlers r))
+put_depths d = entries (be 2) (numbers d)
 
 unfoldable pub get_depths : List ℕ → Got Counts
 get_depths = do

@@ -1,9 +1,10 @@
 -- The float loop's limits, and the flags' bits. Definitions only.
 use Rattle.std.specs.Prelude.{ℕ, ◌+◌, Bool, ◌&&◌, leb}
+use Rattle.program.specs.Counts.{Counts}
 
 -- 01, Modules: "Stack over 16, loops over 4, handlers over 4 or temps over 8 clears FLOAT_ONLY and float_loop"
-unfoldable pub in_float_loop : ℕ → ℕ → ℕ → ℕ → Bool
-in_float_loop stack loops handlers temps = leb stack 16 && (leb loops 4 && (leb handlers 4 && leb temps 8))
+unfoldable pub in_float_loop : Counts → ℕ → Bool
+in_float_loop c temps = leb c.operands 16 && (leb c.loops 4 && (leb c.handlers 4 && leb temps 8))
 
 -- 01, The program image: "Flag bits from 0: FLOAT_ONLY, READS_ACTOR_VARS, USES_TEMPS, READS_CONTEXT, USES_MEMBERS, HAS_ASSIGNMENT,
 -- HAS_LOOPS, USES_ARROW, USES_QUERIES, USES_RANDOM, USES_RANDOM_OP"

@@ -3,6 +3,7 @@ pub mod Opcodes
 pub mod Subs
 pub mod Targets
 pub mod Instruction
+pub mod Counts
 pub mod Program
 pub mod Image
 pub mod Fits

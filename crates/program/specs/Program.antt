@@ -3,12 +3,7 @@ use Rattle.std.specs.Prelude.{Bool, List, [], ℕ, get_or}
 use Rattle.numeric.specs.Post.{Post, identity}
 use Rattle.ast.specs.Tree.{Name}
 use Rattle.program.specs.Instruction.{Instruction, halt}
-
--- open operands, loops and handlers; in a program the declared maxima stack, loops and handlers
-pub record Counts : Type 0 where
-  pub operands : ℕ
-  pub loops : ℕ
-  pub handlers : ℕ
+pub use Rattle.program.specs.Counts.{Counts}
 
 -- 01, The program image: "members (hash 8, text, report, both with their dot)"
 pub record MemberEntry : Type 0 where

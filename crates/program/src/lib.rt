@@ -6,6 +6,7 @@ pub mod subs;
 pub mod targets;
 
 ghost use Rattle.std.specs.Prelude.{◌≡◌};
+ghost use Rattle.program.specs.Counts.{counts_of};
 ghost use Rattle.program.specs.Kinds.{in_float_loop};
 
 #[derive(Clone, Copy, Drop)]
@@ -46,6 +47,13 @@ pub struct Depths {
 }
 
 impl Depths {
+    // Nothing is open.
+    pub const NOTHING_OPEN: Depths = Depths {
+        stack: 0,
+        loops: 0,
+        handlers: 0,
+    };
+
     // The deepest that the float loop holds.
     pub const FLOAT_LOOP: Depths = Depths {
         stack: 16,
@@ -59,7 +67,7 @@ impl Depths {
     // Whether a program of these depths, with so many temps, can run on the float loop.
     #[tactic(auto, unfolding(crate::specs::Kinds::in_float_loop))]
     pub fn in_float_loop(self, temps: u16) -> bool
-        ensures { result ≡ in_float_loop self.stack self.loops self.handlers temps }
+        ensures { result ≡ in_float_loop (counts_of self) temps }
     {
         let most = Depths::FLOAT_LOOP;
         self.stack <= most.stack

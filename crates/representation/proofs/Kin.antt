@@ -118,4 +118,4 @@ module _ {tree : List ℕ} {c : Counts} where
 
 -- one operand taken
 pub pop_one : {tree : List ℕ} (c : Counts) → Moves tree (λ A. A) (operand+ c) c (still (Y.popped 1))
-pop_one c = popped_move c 1 (omega arith) refl refl
+pop_one c = popped_move (suc c.operands) 1 (omega arith)

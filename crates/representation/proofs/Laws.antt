@@ -95,9 +95,9 @@ module _ {tree : List ℕ} {c : Counts} where
   each_move = search rules
 
   -- so many operands taken
-  pub popped_move : (d : Counts) (n : ℕ) → c.operands ≡ d.operands + n → c.loops ≡ d.loops → c.handlers ≡ d.handlers → Moves tree (λ A. A) c d (still (L.popped n))
+  pub popped_move : (m n : ℕ) → m ≡ c.operands + n → Moves tree (λ A. A) (record c { operands = m }) c (still (L.popped n))
   unfolding L.popped
-  popped_move d n e1 e2 e3 = search rules
+  popped_move m n e = search rules
 
   pub handler_left_lem : Moves tree (λ A. A) (handler+ c) c (still L.handler_left)
   unfolding L.handler_left

@@ -32,14 +32,14 @@ use Rattle.representation.proofs.Arguments.{Child, Children, children_count}
 use Rattle.representation.proofs.Sound.{as_hash_lem, as_math_lem, float_same, const_same}
 use Rattle.representation.proofs.Kin.{one_rel, some_rel, two_rel, one_left, nothing_move, put_post_lem, post_behind, sets_move, not_float_move, sets_not_move, pop_one}
 
--- j operands more
-abbrev ups : ℕ → Counts → Counts
-ups zero c = c
-ups (suc j) c = ups j (operand+ c)
+-- j more
+abbrev ups : ℕ → ℕ → ℕ
+ups zero n = n
+ups (suc j) n = ups j (suc n)
 
-ups_are : (j : ℕ) (c : Counts) → ((ups j c).operands ≡ c.operands + j) × ((ups j c).loops ≡ c.loops) × ((ups j c).handlers ≡ c.handlers)
-ups_are zero c = (omega arith, refl, refl)
-ups_are (suc j) c = let h = ups_are j (operand+ c) in let e = h.0 in (omega (arith, e), h.1, h.2)
+ups_are : (j n : ℕ) → ups j n ≡ n + j
+ups_are zero n = omega arith
+ups_are (suc j) n = let h = ups_are j (suc n) in omega arith
 
 less : (m j : ℕ) → m ≡ suc j → j ≡ m - 1
 less m j e = omega arith
@@ -70,14 +70,14 @@ module _ (tree : List ℕ) (E : ℕ → Bool → Step) (C : ℕ → NameRef → 
 
     -- ---- host functions: j operands are left open
 
-    hosted_ends : (f k : ℕ) {c : Counts} (a : Lowerings) (ys : List Lowerings) (j q : ℕ) (l : Bool) → Child tree E C Z a q → Children tree E C Z ys j (next_at tree q) → Ends tree (D.host_math f k (L.post_bits tree p) a ys l) c (ups j c) (R.host_arguments tree E C Z p f k j q l)
+    hosted_ends : (f k : ℕ) {c : Counts} (a : Lowerings) (ys : List Lowerings) (j q : ℕ) (l : Bool) → Child tree E C Z a q → Children tree E C Z ys j (next_at tree q) → Ends tree (D.host_math f k (L.post_bits tree p) a ys l) c (record c { operands = ups j c.operands }) (R.host_arguments tree E C Z p f k j q l)
     unfolding D.host_math R.host_arguments word_of
     hosted_ends f k {c} a [] zero q l ca ks = thens (ca.expr_is l c) (put_post_lem p (λ v. N.taking (N.host_math f k v)) 22 k f (λ v. refl))
     hosted_ends f k {c} a (b ∷ ys) (suc j) q l ca ks = pushes (ca.expr_is l c) (hosted_ends f k b ys j (next_at tree q) l ks.0 ks.1)
     hosted_ends f k a ys j q l ca ks = absurd ks
 
     hosted_does : (f k : ℕ) {c : Counts} (a : Lowerings) (ys : List Lowerings) (j q : ℕ) (l : Bool) → Child tree E C Z a q → Children tree E C Z ys j (next_at tree q) → Does tree (D.host_math f k (L.post_bits tree p) a ys l) c (λ h. still (Y.popped j) (R.host_arguments tree E C Z p f k j q l h))
-    hosted_does f k {c} a ys j q l ca ks = let u = ups_are j c in lowers (hosted_ends f k a ys j q l ca ks) (popped_move c j u.0 u.1 u.2)
+    hosted_does f k {c} a ys j q l ca ks = lowers (hosted_ends f k a ys j q l ca ks) (popped_move (ups j c.operands) j (ups_are j c.operands))
 
   -- ---- the rules
 

@@ -5,7 +5,8 @@ use mathlib.Core.Option.{Option, some, none}
 use Rattle.ast.specs.Tree.{Name}
 use Rattle.numeric.specs.Post.{Post}
 use Rattle.program.specs.Instruction.{Instruction}
-use Rattle.program.specs.Program.{Counts, MemberStore}
+use Rattle.program.specs.Counts.{Counts, counts_of, all, Each, AtMost}
+use Rattle.program.specs.Program.{MemberStore}
 use Rattle.program.specs.Image.{word_of}
 use Rattle.depth.specs.declared.Depth.{Depth}
 use Rattle.semantics.specs.Positions.{past}
@@ -119,7 +120,7 @@ abbrev pub finished_code : Pools → List Instruction
 finished_code P = place_segments P.segments 0
 
 -- each region has room for what is in it, and no counter is full; over values, so that a step that changes none of them leaves it as it is
-pub record Room (in_code in_consts in_posts in_hashes in_names in_temps in_members in_stores in_paths in_calls in_arguments in_operands in_loops in_handlers : ℕ) : Type 0 where
+pub record Room (in_code in_consts in_posts in_hashes in_names in_temps in_members in_stores in_paths in_calls in_arguments : ℕ) (in_counts : Counts) : Type 0 where
   pub code : in_code ≤ 2048
   pub consts : in_consts ≤ 384
   pub posts : in_posts ≤ 384
@@ -131,16 +132,13 @@ pub record Room (in_code in_consts in_posts in_hashes in_names in_temps in_membe
   pub paths : in_paths ≤ 256
   pub calls : in_calls ≤ 384
   pub arguments : in_arguments ≤ 384
-  pub operands : in_operands ≤ 65535
-  pub loops : in_loops ≤ 65535
-  pub handlers : in_handlers ≤ 65535
+  pub counts : AtMost in_counts (all 65535)
 
 abbrev pub Fits : Abs → Type 0
 Fits A =
     let P = A.state.pools in
-    let d = A.state.deepest in
     Room (length A.outer + length A.code + length (finished_code P)) (length P.consts) (length P.posts) (length P.hashes) (length P.names) (length P.temps) (length P.members)
-    (length P.stores) (path_entries P.stores) (length P.calls) (reserved_by A.open_calls + filled P.calls) d.operands d.loops d.handlers
+    (length P.stores) (path_entries P.stores) (length P.calls) (reserved_by A.open_calls + filled P.calls) A.state.deepest
 
 -- n entries of w words from o on are xs
 pub record Table {X : Type 0} (w : ℕ) (Q : ℕ → X → Type 0) (o n : ℕ) (xs : List X) : Type 0 where
@@ -178,17 +176,11 @@ pub record Tables (tree ws : List ℕ) (top base finished consts posts hashes na
   pub stores_held : StoresHeld ws stores paths P.stores
   pub calls_held : CallsHeld ws calls arguments P.calls open_calls
 
--- a counter of the builder, now and at its deepest, where n are open of at most m
-pub record Counter (now top n m : ℕ) : Type 0 where
-  pub open_is : now ≡ n
-  pub most_is : top ≡ m
-  pub within : n ≤ m
-
--- the three counters, under the open counts c
+-- the builder's counters, now and at their deepest, where c is open
 pub record Counted (c deepest : Counts) (d : Depth) : Type 0 where
-  pub operands : Counter d.now.stack d.max.stack c.operands deepest.operands
-  pub loops : Counter d.now.loops d.max.loops c.loops deepest.loops
-  pub handlers : Counter d.now.handlers d.max.handlers c.handlers deepest.handlers
+  pub open_are : Each (λ m n. m ≡ n) (counts_of d.now) c
+  pub most_are : Each (λ m n. m ≡ n) (counts_of d.max) deepest
+  pub within : AtMost c deepest
 
 -- what stands beside the words; it is over values, so that a step on the words leaves it as it is
 pub record Beside (c : Counts) (waiting : Bool) (depth : Depth) (bits : ℕ) (float_loop : Bool) (number : ℕ) (wait : Bool) (deepest : Counts) (flags : Flags) (refusal : ℕ) : Type 0 where

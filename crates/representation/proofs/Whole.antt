@@ -2,6 +2,7 @@
 use Rattle.std.proofs.Common.{rules, ◌≡◌, refl, sym, ap, subst, ◌∙◌, Bool, true, false, cond, List, [], ◌∷◌, ◌++◌, map, ℕ, zero, suc, ◌+◌, ◌*◌, ◌≤◌, ◌<◌, arith, length, get_or, length-append}
 use Rattle.answers.specs.Refusals.{number_of_first}
 use mathlib.Core.Option.{Option, some, none}
+use mathlib.Core.Path.{ap₂}
 use lib.Bits.{bit_and}
 use Rattle.std.proofs.lemmas.List.{map-append, get_or-map}
 use lib.ListN.{length-map}
@@ -16,6 +17,7 @@ use Rattle.program.specs.Image.{word_of}
 use Rattle.program.specs.Targets.{shift_of}
 use Rattle.program.specs.Kinds.{in_float_loop}
 use Rattle.program.specs.Fits.{Every, FitInstruction, FitProgram}
+use Rattle.program.proofs.Counts.{same_counts, counts_fitted}
 use Rattle.semantics.specs.Positions.{◌⊕◌, past}
 use Rattle.semantics.proofs.Positions.{past_length}
 use Rattle.semantics.proofs.Ranges.{shift}
@@ -36,7 +38,7 @@ use Rattle.lowering.specs.Parts as L
 use Rattle.lowering.specs.Rules as R
 use Rattle.representation.specs.Sections.{in_loop, sections_of}
 use Rattle.representation.proofs.Rows.{Rows}
-use Rattle.representation.proofs.Represents.{ItemAt, InstructionAt, WordAt, MemberAt, places, first_place, Filled, CallsFrom, filled, Abs, Fits, Table, Counter, Content, Does}
+use Rattle.representation.proofs.Represents.{ItemAt, InstructionAt, WordAt, MemberAt, places, first_place, Filled, CallsFrom, filled, Abs, Fits, Table, Content, Does}
 use Rattle.representation.proofs.Pools.{rows_at}
 use Rattle.representation.proofs.Laws.{thens}
 use Rattle.representation.proofs.Targets.{mk, aim_at}
@@ -222,7 +224,7 @@ begins : (tree words : List ℕ) → 16384 ≤ length words → Content tree not
 unfolding place_segments
 begins tree words h = record {
   enough = h;
-  beside = let z : Counter 0 0 0 0 = record { open_is = refl; most_is = refl; within = omega arith } in record { waiting_is = refl; counted = record { operands = z; loops = z; handlers = z }; bits_are = refl; float_loop_is = refl; number_is = refl };
+  beside = record { waiting_is = refl; counted = omega arith; bits_are = refl; float_loop_is = refl; number_is = refl };
   tables = record {
     code_held = record {
       open_base = refl;
@@ -254,7 +256,7 @@ module _ (tree words : List ℕ) (small : Bytes tree) (passed : questions tree �
   unfolding program link
   fits_main =
       let r = regions tree small passed in
-      let f = fits_all.depths in
+      let f = counts_fitted fits_all.depths in
       let s = x.state.pools in
       let b = past x.code 0 in
       let la = length-append (map (settle 0 0 0) x.code) (place_segments s.segments b) in
@@ -285,9 +287,9 @@ module _ (tree words : List ℕ) (small : Bytes tree) (passed : questions tree �
   refusal_is = content.beside.number_is
 
   -- the flags
-  in_a_loop : in_loop (R.lowered tree words).0 ≡ in_float_loop x.state.deepest.operands x.state.deepest.loops x.state.deepest.handlers (length x.state.pools.temps)
+  in_a_loop : in_loop (R.lowered tree words).0 ≡ in_float_loop x.state.deepest (length x.state.pools.temps)
   unfolding in_loop
-  in_a_loop = let b = content.beside in let t = content.tables.pools_held.the_temps.count in rw (b.counted.operands.most_is, b.counted.loops.most_is, b.counted.handlers.most_is, t)
+  in_a_loop = ap₂ in_float_loop (same_counts content.beside.counted.most_are) content.tables.pools_held.the_temps.count
 
   pub holds : Holds tree (R.lowered tree words).1 (sections_of (R.lowered tree words).0) (program (settings tree) (parse tree))
   unfolding sections_of program link final_flags
@@ -335,9 +337,7 @@ module _ (tree words : List ℕ) (small : Bytes tree) (passed : questions tree �
         stores = λ k l. (each_rows 4 _ STORES s.stores _ t.stores_held.the_stores.rows k l).0;
         calls_count = length-map s.calls (place_call b) ∙ sym t.calls_held.call_count;
         calls = subst (λ (m : ℕ). Each (record { index = 0; impl = 0; starts = [] }) (λ k q. CallIs ws m (CALLS + 4 * k) q) (map (place_call b) s.calls)) (sym eb) (calls_placed ws b s.calls (calls_all ws h.0.arguments CALLS 0 s.calls (let ac = t.calls_held.argument_count in omega arith) t.calls_held.the_calls));
-        stack = bs.counted.operands.most_is;
-        loops = bs.counted.loops.most_is;
-        handlers = bs.counted.handlers.most_is;
+        depths = same_counts bs.counted.most_are;
         flags = rw il (flags_final _ h.0.flags x.state.flags bs.bits_are);
         float_loop = rw il (loop_final _ h.0.float_loop x.state.flags bs.float_loop_is);
       }

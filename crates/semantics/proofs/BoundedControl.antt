@@ -10,7 +10,8 @@ use Rattle.program.specs.Instruction.{Guard, jump_if_falsy, EachNext, Instructio
 use Rattle.program.specs.Program.{Counts}
 use Rattle.semantics.proofs.Bounds.{Fits, flushed, raised, In, left, Less, Safe, Bound, Fine, raised_to, closed, post_b}
 use Rattle.semantics.proofs.Relations.{Zip, znil, zcons}
-use Rattle.semantics.specs.Demand3.{AtMost, Within}
+use Rattle.program.specs.Counts.{AtMost}
+use Rattle.semantics.specs.Demand3.{Within}
 use Rattle.semantics.specs.Lowering.{query, Lowerings, called}
 use Rattle.semantics.specs.Pieces.{Lowering, put, with_post, fork}
 use Rattle.semantics.specs.Run.{Action, e_jump_if_falsy, e_loop_begin, e_loop_check, e_each_begin, Run, set_counts, set_outcomes, note, note_argument, handler+, handler-, same, opens, count, pick}

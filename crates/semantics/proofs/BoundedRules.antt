@@ -57,7 +57,7 @@ addition_b p q a znil e = a.expr e then_b post_b p _ (λ k. take_b (taking (add_
 addition_b p q a (zcons b h) e = a.expr e then_b put_b (plain add_acc) e_add_acc then_b addition_b p q b h e
 
 hosted_b : (f n k : ℕ) (p : Post) (x : Action) {l : Lowerings} {m : Walkings} → Whole l m → {ls : List Lowerings} {ms : List Walkings} → Zip Whole ls ms → (e : Scope)
-    → Bound (L.host_math f n p l ls e.loop) (K.host_math k x m ms e) (λ c. record { operands = c.operands + length ms - k; loops = c.loops; handlers = c.handlers })
+    → Bound (L.host_math f n p l ls e.loop) (K.host_math k x m ms e) (λ c. record c { operands = c.operands + length ms - k })
 unfolding L.host_math K.host_math
 hosted_b f n k p x a znil e = ext_bound (a.expr e then_b post_b p _ (λ q. take_b (taking (host_math f n q)) k x)) _ (λ c. cnt_path c (omega arith))
 hosted_b f n k p x a (zcons b h) e = ext_bound (pushed_b (a.expr e) (hosted_b f n k p x b h e)) _ (λ c. cnt_path c (omega arith))

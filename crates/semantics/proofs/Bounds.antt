@@ -3,15 +3,18 @@ use mathlib.Core.Bool.{Bool, true, false, cond}
 use Prim.Native.Nat.{ℕ, zero, suc, ◌≤◌}
 use native.Mathlib.Omega.{arith}
 use lib.ListN.{length}
+use Rattle.std.specs.Prelude.{max}
 use Rattle.ast.specs.Tree.{Name}
 use Rattle.numeric.specs.Post.{Post, is_identity}
 use Rattle.program.specs.Instruction.{post, Instruction, plain}
-use Rattle.program.specs.Program.{Counts, MemberStore}
+use Rattle.program.proofs.Counts.{transitive, below_left, below_right}
+use Rattle.program.specs.Counts.{Counts, pairwise, AtMost}
+use Rattle.program.specs.Program.{MemberStore}
 use Rattle.semantics.proofs.Relations.{either_rel}
-use Rattle.semantics.specs.Demand3.{AtMost, Within}
+use Rattle.semantics.specs.Demand3.{Within}
 use Rattle.semantics.specs.Pieces.{Lowered, Lowering, flush, put, nothing, failing, put_const, ◌⨾◌, pushed, flagged, Pool, interned, const_pool, name_pool, slot_pool, with_temp, with_store, post_pool, post_if, with_post, constant}
 use Rattle.semantics.specs.Run.{Action, e_const, e_post, e_push, Run, note, operand+, operands-, same, opens, closes, count}
-use Rattle.semantics.specs.State.{Flags, State, max_counts, raise, first}
+use Rattle.semantics.specs.State.{Flags, State, raise, first}
 use Rattle.semantics.specs.Walk.{Completion, normal, missing, broke, again, returned, halted, out, Walking, after, ◌then◌, pass, logs, takes, pushes}
 
 -- Every piece uses up outcomes only, and at no event of it is more open than the maxima it raised. Assumes nothing.
@@ -64,11 +67,11 @@ pub record Bound₀ (f : Counts → ℕ → State → Lowered) (u : Walking) (d 
 abbrev pub Fine : Lowering → Walking → Type 0
 Fine f u = Bound f u same
 
-pub raised : (c a : Counts) {m : Counts} {r : ℕ} → Within-max m (max_counts a c) r → Within-max m a r
-raised c a h = record { le = omega arith; clean = h.clean }
+pub raised : (c a : Counts) {m : Counts} {r : ℕ} → Within-max m (pairwise max a c) r → Within-max m a r
+raised c a h = record { le = transitive (below_left a c) h.le; clean = h.clean }
 
-pub raised_to : (c a : Counts) {m : Counts} {r : ℕ} → Within-max m (max_counts a c) r → AtMost c m
-raised_to c a h = omega arith
+pub raised_to : (c a : Counts) {m : Counts} {r : ℕ} → Within-max m (pairwise max a c) r → AtMost c m
+raised_to c a h = transitive (below_right a c) h.le
 
 pub refused : (r e : ℕ) → first e (suc r) ≡ 0 → ⊥
 unfolding first
@@ -76,8 +79,8 @@ refused r zero h = omega arith
 refused r (suc e) h = omega arith
 
 -- the counts after operands were taken, or a loop closed
-pub cnt_path : {a b : ℕ} (c : Counts) → a ≡ b → ◌≡◌ {A = Counts} (record { operands = a; loops = c.loops; handlers = c.handlers }) (record { operands = b; loops = c.loops; handlers = c.handlers })
-cnt_path c h = λ i. record { operands = h i; loops = c.loops; handlers = c.handlers }
+pub cnt_path : {a b : ℕ} (c : Counts) → a ≡ b → ◌≡◌ {A = Counts} (record c { operands = a }) (record c { operands = b })
+cnt_path c h = λ i. record c { operands = h i }
 
 pub taken : (c : Counts) → operands- 1 (operand+ c) ≡ c
 taken c = cnt_path c (omega arith)

@@ -1,3 +1,4 @@
+use Rattle.program.proofs.Counts.{counts_fit}
 use Rattle.program.proofs.Length.{program_length, image_length}
 use Rattle.program.proofs.ReadBack.{read_image}
 use mathlib.Core.Path.{◌≡◌}
@@ -20,7 +21,7 @@ use Rattle.semantics.proofs.RangedJumps.{fits_end}
 use Rattle.semantics.proofs.RangedRules.{tree_r}
 use Rattle.semantics.proofs.Ranges.{Fits, ones, total, FitText, FitRead, FitInfo, Good, Done, Ranged, past_weigh, shift, not_fit, every_append, ◌then_r◌, put_r}
 use Rattle.semantics.proofs.Sizes.{held, bytes, weigh_length, weighed, nodes_bytes, sizes}
-use Rattle.semantics.specs.Demand3.{AtMost}
+use Rattle.program.specs.Counts.{all, AtMost}
 use Rattle.semantics.specs.Link.{settle, place_segments, offsets_of, place_call, member_entry, final_flags, lowered, link, program}
 use Rattle.semantics.specs.Lowering.{lower}
 use Rattle.semantics.specs.Pieces.{put, ◌⨾◌}
@@ -105,9 +106,9 @@ module _ (S : Settings) (t : Tree) (f : TreeFits t) (short : bytes t ≤ 6137) w
   unfolding lowered
   done = let h = total_bytes S t in (whole.by nothing_open false 0 empty).ok tt (omega arith) empty_good
 
-  deepest : AtMost (lowered S t).state.deepest (record { operands = 65535; loops = 65535; handlers = 65535 })
+  deepest : AtMost (lowered S t).state.deepest (all 65535)
   unfolding lowered
-  deepest = let h = total_bytes S t in (whole.by nothing_open false 0 empty).deep (record { operands = 65535; loops = 65535; handlers = 65535 }) (omega arith) (omega arith)
+  deepest = let h = total_bytes S t in (whole.by nothing_open false 0 empty).deep (all 65535) (omega arith) (omega arith)
 
   pub program_fits : FitProgram (program S t)
   unfolding program link sz final_flags
@@ -120,7 +121,7 @@ module _ (S : Settings) (t : Tree) (f : TreeFits t) (short : bytes t ≤ 6137) w
       let d = deepest in
       let k = total_bytes S t in
       let e = past_weigh x.code 0 in
-      let fl = final_fit (in_float_loop x.state.deepest.operands x.state.deepest.loops x.state.deepest.handlers (length x.state.pools.temps)) x.state.flags done.good.flags in
+      let fl = final_fit (in_float_loop x.state.deepest (length x.state.pools.temps)) x.state.flags done.good.flags in
       record {
         code = record { short = omega arith; each = every_append FitInstruction (map (settle 0 0 0) x.code) (place_segments x.state.pools.segments b) (settled 0 (omega arith) x.code done.fits) (placed x.state.pools.segments b (omega arith) g.segments) };
         consts = record { short = omega arith; each = g.consts };
@@ -131,7 +132,7 @@ module _ (S : Settings) (t : Tree) (f : TreeFits t) (short : bytes t ≤ 6137) w
         members = record { short = omega arith; each = every_map FitRead FitMember member_entry fit_member x.state.pools.members g.members };
         stores = record { short = omega arith; each = fit_stores x.state.pools.stores (omega arith) g.stores };
         calls = record { short = omega arith; each = fit_calls b (omega arith) x.state.pools.calls (omega arith) g.calls };
-        depths = record { operands = omega arith; loops = omega arith; handlers = omega arith };
+        depths = counts_fit d;
         flags = omega arith;
       }
 

@@ -16,7 +16,7 @@ use Rattle.semantics.proofs.Costs.{sum, weigh, weigh_length, count_least, call_w
 use Rattle.semantics.proofs.RangedJumps.{fits_end}
 use Rattle.semantics.proofs.RangedPools.{post_r}
 use Rattle.semantics.proofs.Ranges.{Fits, ones, FitText, FitInfo, Good, Done, Room, Ranged, past_weigh, every_append, put_r}
-use Rattle.semantics.specs.Demand3.{AtMost}
+use Rattle.program.specs.Counts.{AtMost}
 use Rattle.semantics.specs.Link.{relocate, settle, offsets_of}
 use Rattle.semantics.specs.Lowering.{query, arguments, Lowerings, pasts, close_segment, fill, called}
 use Rattle.semantics.specs.Pieces.{Lowered, put, with_post}

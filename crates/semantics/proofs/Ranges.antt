@@ -9,10 +9,9 @@ use Rattle.ast.specs.Tree.{Name}
 use Rattle.program.specs.Fits.{Below, Every, FitInstruction, FitPost, root_index}
 use Rattle.program.specs.Image.{word_of}
 use Rattle.program.specs.Instruction.{const, plain, Instruction, halt, push}
-use Rattle.program.specs.Program.{Counts}
 use Rattle.semantics.proofs.Costs.{Weight, weigh, weigh_length, size, waits, weigh_append}
 use Rattle.semantics.proofs.Positions.{past_plus, interning}
-use Rattle.semantics.specs.Demand3.{AtMost}
+use Rattle.program.specs.Counts.{Counts, Each, AtMost}
 use Rattle.semantics.specs.Link.{relocate, settle, offsets_of}
 use Rattle.semantics.specs.Pieces.{Lowered, emit, Lowering, flush, put, nothing, failing, put_const, ◌⨾◌, pushed, flagged, jumps}
 use Rattle.semantics.specs.Positions.{◌⊕◌, past, intern}
@@ -75,10 +74,8 @@ pub record Done (x : Lowered) : Type 0 where
   pub fits : Every Fits x.code
 
 -- counts m have room for the counts c and all that a piece adds, from `before` entries and a Push that may wait to `after`
-pub record Room (c m : Counts) (w before after : ℕ) : Type 0 where
-  pub operands : c.operands + after ≤ m.operands + before + w
-  pub loops : c.loops + after ≤ m.loops + before + w
-  pub handlers : c.handlers + after ≤ m.handlers + before + w
+abbrev pub Room : Counts → Counts → ℕ → ℕ → ℕ → Type 0
+Room c m w before after = Each (λ n most. n + after ≤ most + before + w) c m
 
 -- the indices that stand in the piece are small
 abbrev pub Under : List ℕ → Type 0
@@ -116,7 +113,7 @@ shift b (suc t) = let h = shift b t in omega arith
 
 -- what a fork or a guard opens
 pub record Up (up : Counts → Counts) : Type 0 where
-  pub by : (c : Counts) → AtMost (up c) (record { operands = suc c.operands; loops = suc c.loops; handlers = suc c.handlers })
+  pub by : (c : Counts) → Each (λ n before. n ≤ suc before) (up c) c
 
 fits_push : Fits (instr push)
 unfolding settle relocate word_of

@@ -6,8 +6,9 @@ use Rattle.numeric.specs.Post.{identity}
 use Rattle.numeric.specs.PostOp.{post}
 use Rattle.ast.specs.Tree.{p_none, p_float, p_name, p_query, Tree, node, nil, cons}
 use Rattle.ast.specs.Encode.{image}
-use Rattle.program.specs.Program.{Counts}
+use Rattle.program.specs.Counts.{Counts}
 use Rattle.program.specs.Image.{Word, word}
+use Rattle.semantics.specs.Example.{depths}
 
 -- 01, Bench pieces: "each instruction as index, opcode, sub, A, B, then the closing fields, or `refused` and the number": the program
 -- image's length and bytes, its instructions in order, the starts of each call's arguments, depths, flags and float_loop
@@ -24,9 +25,6 @@ pub record Piece : Type 0 where
 -- a piece by its tree, with arrays Unresolved and divisor Signed
 abbrev pub piece : Tree → ℕ → Outcome → Piece
 piece t size outcome = record { tree = image 0 0 t; size = size; outcome = outcome }
-
-abbrev pub depths : ℕ → ℕ → ℕ → Counts
-depths stack loops handlers = record { operands = stack; loops = loops; handlers = handlers }
 
 -- 01, The tree image: "Operator codes: 1 Array to 51 Comma in order of first mention in `expr`; the 60 stdlib operators, 64 Mod"
 abbrev pub array : ℕ

@@ -1,10 +1,10 @@
 -- Demand 3: the program does what its tree does. Definitions only: `demand3` in proofs/Demand3.antt proves it.
-use Rattle.std.specs.Prelude.{◌≡◌, Bool, List, [], ◌∷◌, ℕ, ◌≤◌}
+use Rattle.std.specs.Prelude.{◌≡◌, Bool, List, [], ◌∷◌, ℕ}
 use Rattle.std.proofs.Math.Option.{some}
 use Rattle.wire.specs.Bytes.{Bytes}
 use Rattle.ast.specs.Header.{settings}
 use Rattle.ast.specs.Node.{parse}
-use Rattle.program.specs.Program.{Counts}
+use Rattle.program.specs.Counts.{Counts, AtMost}
 use Rattle.program.specs.Image.{read}
 use Rattle.semantics.specs.Run.{Event, event, argument, Result, Behaviour, behaviour}
 use Rattle.semantics.specs.Walk.{walked}
@@ -21,12 +21,6 @@ pub record Shows (card : List ℕ) (outcomes : List Bool) (b : Behaviour) : Type
   pub result : Result
   pub stops : follow (read card) steps (start outcomes) ≡ some result
   pub same : behaviour outcomes result ≡ b
-
--- no more open than declared
-pub record AtMost (now declared : Counts) : Type 0 where
-  pub operands : now.operands ≤ declared.operands
-  pub loops : now.loops ≤ declared.loops
-  pub handlers : now.handlers ≤ declared.handlers
 
 -- 01, Walk: "an argument's number has no counts to hold against them"
 abbrev pub Within : Counts → List Event → Type 0

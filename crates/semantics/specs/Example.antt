@@ -4,6 +4,7 @@
 use Rattle.std.specs.Prelude.{Bool, List, ℕ}
 use Rattle.numeric.specs.Post.{Post}
 use Rattle.numeric.specs.PostOp.{post}
+use Rattle.program.specs.Counts.{Counts}
 use Rattle.semantics.specs.Run.{Action, Event, event, Ending, Behaviour}
 
 -- a list of outcomes, and what a run on it shows
@@ -23,9 +24,13 @@ example tree card trials = record { tree = tree; card = card; trials = trials }
 abbrev pub trial : List Bool → Ending → ℕ → List Event → Trial
 trial outcomes ending used log = record { outcomes = outcomes; shows = record { log = log; ending = ending; used = used } }
 
--- an event with the open operands, loops and handlers
+-- open operands, loops and handlers
+abbrev pub depths : ℕ → ℕ → ℕ → Counts
+depths stack loops handlers = record { operands = stack; loops = loops; handlers = handlers }
+
+-- an event with what is open
 abbrev pub entry : Action → ℕ → ℕ → ℕ → Event
-entry a o l h = event a (record { operands = o; loops = l; handlers = h })
+entry a o l h = event a (depths o l h)
 
 -- the hashes of the names a, b, c, e, t, x and y
 abbrev pub hash_a : ℕ

@@ -61,9 +61,7 @@ member_entry r = record { hash = r.own.hash; text = 46 ∷ r.own.text; report = 
 
 -- 01, Modules: "Stack over 16, loops over 4, handlers over 4 or temps over 8 clears FLOAT_ONLY and float_loop."
 unfoldable pub final_flags : State → Flags
-final_flags s = cond (in_float_loop s.deepest.operands s.deepest.loops s.deepest.handlers (length s.pools.temps))
-    s.flags
-    (not_float_only s.flags)
+final_flags s = cond (in_float_loop s.deepest (length s.pools.temps)) s.flags (not_float_only s.flags)
 
 -- the root as an expression, nothing open, and End
 unfoldable pub lowered : Settings → Tree → Lowered

@@ -1,7 +1,8 @@
 -- What a run is made of: events with open counts, outcomes, endings. Shared by the walk and the step machine. Definitions only.
 use Rattle.std.specs.Prelude.{Bool, true, false, List, [], ◌∷◌, reverse, ℕ, suc, pred, ◌-◌, length}
 use Rattle.numeric.specs.Post.{Post}
-use Rattle.program.specs.Program.{Counts, StoreRoot}
+use Rattle.program.specs.Counts.{Counts, all}
+use Rattle.program.specs.Program.{StoreRoot}
 
 -- 01, Walk: "its name, sub, pool values in place of indices": an instruction with values; where it has a sub this comes first
 -- (of HostMath the function, then argc), where it has a post this comes last
@@ -40,33 +41,33 @@ abbrev pub note_argument : ℕ → Run → Run
 note_argument j w = record { counts = w.counts; outcomes = w.outcomes; log = argument j ∷ w.log }
 
 abbrev pub nothing_open : Counts
-nothing_open = record { operands = 0; loops = 0; handlers = 0 }
+nothing_open = all 0
 
 abbrev pub operand+ : Counts → Counts
-operand+ c = record { operands = suc c.operands; loops = c.loops; handlers = c.handlers }
+operand+ c = record c { operands = suc c.operands }
 
 -- k operands taken
 abbrev pub operands- : ℕ → Counts → Counts
-operands- k c = record { operands = c.operands - k; loops = c.loops; handlers = c.handlers }
+operands- k c = record c { operands = c.operands - k }
 
 abbrev pub handler+ : Counts → Counts
-handler+ c = record { operands = c.operands; loops = c.loops; handlers = suc c.handlers }
+handler+ c = record c { handlers = suc c.handlers }
 
 abbrev pub handler- : Counts → Counts
-handler- c = record { operands = c.operands; loops = c.loops; handlers = pred c.handlers }
+handler- c = record c { handlers = pred c.handlers }
 
 abbrev pub same : Counts → Counts
 same c = c
 
 -- 01, Walk: "LoopBegin going on add an operand", "LoopBegin and EachBegin going on open a loop"; true is LoopBegin's
 unfoldable pub opens : Bool → Counts → Counts
-opens true c = record { operands = suc c.operands; loops = suc c.loops; handlers = c.handlers }
-opens false c = record { operands = c.operands; loops = suc c.loops; handlers = c.handlers }
+opens true c = record c { operands = suc c.operands; loops = suc c.loops }
+opens false c = record c { loops = suc c.loops }
 
 -- 01, Walk: "LoopEnd then closes it and drops LoopBegin's operand"
 unfoldable pub closes : Bool → Counts → Counts
-closes true c = record { operands = pred c.operands; loops = pred c.loops; handlers = c.handlers }
-closes false c = record { operands = c.operands; loops = pred c.loops; handlers = c.handlers }
+closes true c = record c { operands = pred c.operands; loops = pred c.loops }
+closes false c = record c { loops = pred c.loops }
 
 abbrev pub count : (Counts → Counts) → Run → Run
 count f w = set_counts (f w.counts) w

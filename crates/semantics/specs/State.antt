@@ -6,7 +6,8 @@ use Rattle.numeric.specs.Post.{Post}
 use Rattle.ast.specs.Tree.{Name}
 use Rattle.program.specs.Kinds.{FLOAT_ONLY, USES_QUERIES, NOT_FLOAT}
 use Rattle.program.specs.Instruction.{Instruction}
-use Rattle.program.specs.Program.{Counts, MemberStore}
+use Rattle.program.specs.Counts.{Counts, pairwise}
+use Rattle.program.specs.Program.{MemberStore}
 use Rattle.semantics.specs.Run.{nothing_open}
 
 -- an instruction of a segment that is being lowered, its targets counted from the segment's start;
@@ -107,11 +108,8 @@ set_pools x s = record { pools = x; deepest = s.deepest; flags = s.flags; refusa
 abbrev pub set_flags : Flags → State → State
 set_flags x s = record { pools = s.pools; deepest = s.deepest; flags = x; refusal = s.refusal }
 
-abbrev pub max_counts : Counts → Counts → Counts
-max_counts a b = record { operands = max a.operands b.operands; loops = max a.loops b.loops; handlers = max a.handlers b.handlers }
-
 abbrev pub raise : Counts → State → State
-raise c s = record { pools = s.pools; deepest = max_counts s.deepest c; flags = s.flags; refusal = s.refusal }
+raise c s = record { pools = s.pools; deepest = pairwise max s.deepest c; flags = s.flags; refusal = s.refusal }
 
 -- 01, Nine questions: "Of 5 to 8 the first met in lowering decides."
 unfoldable pub first : ℕ → ℕ → ℕ
