@@ -7,3 +7,5 @@ pub mod Node
 pub mod Questions
 pub mod Encode
 pub mod Kinds
+pub mod Subs
+pub mod Meaning

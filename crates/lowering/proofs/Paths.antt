@@ -5,6 +5,7 @@ use mathlib.Core.List.{List}
 use Prim.Native.Nat.{ℕ, zero, suc, ◌-◌}
 use native.Mathlib.Numerals.{sub-one}
 use lib.Dec.{eqb}
+use Rattle.ast.specs.Rules.{member}
 use Rattle.ast.specs.Node.{count_at, first_at}
 use borrow.Author.Tests.{ne_eqb}
 use Rattle.std.specs.Prelude.{Option, None, Some}
@@ -38,11 +39,8 @@ unfolding path_hashes
 a_hash t zero p h e = absurd (e refl)
 a_hash t (suc n) p h e = rw (sub-one (suc n))
 
--- the path ends here, and goes on by one more link
-pub ends_here : (t : List ℕ) (n p : ℕ) {r : ℕ} → (n ≡ 0 → ⊥) → r ≡ rule t p → (r ≡ 16 → ⊥) → ◌≡◌ {A = Option PathEnd} (Some (record { root = p; count = 0 })) (path_end t n p)
-ends_here t n p {r = r} z e f = rw (an_end t n p z, ← e, ne_eqb r 16 f)
-
-pub goes_on : (t : List ℕ) (n p : ℕ) {k : ℕ} {y : Payload} {m : NameRef} {e : PathEnd} → (n ≡ 0 → ⊥) → rule t p ≡ 16 → y ≡ payload t p → y ≡ Member m → k ≡ count_at t p → (k ≡ 0 → ⊥)
+-- the path goes on by one more link
+pub goes_on : (t : List ℕ) (n p : ℕ) {k : ℕ} {y : Payload} {m : NameRef} {e : PathEnd} → (n ≡ 0 → ⊥) → rule t p ≡ member → y ≡ payload t p → y ≡ Member m → k ≡ count_at t p → (k ≡ 0 → ⊥)
     → path_end t (n - 1) (first_at t p) ≡ Some e → ◌≡◌ {A = Option PathEnd} (Some (longer t e)) (path_end t n p)
 unfolding as_name cases
 goes_on t n p {k = k} z r ey em ek f e = rw (an_end t n p z, r, ← ey, em, ← ek, ne_eqb k 0 f, e)

@@ -1,16 +1,14 @@
 -- What each rule without operands makes of the builder's state and the workspace's words, and what stands behind an operand. Definitions only.
-use Rattle.std.specs.Prelude.{Bool, cond, List, [], ◌∷◌, ℕ, zero, suc, eqb, Option, None, Some}
+use Rattle.std.specs.Prelude.{Bool, true, false, cond, List, ℕ, zero, suc, eqb, Option, None, Some}
 use Rattle.std.specs.Option.{option_map}
 use Rattle.answers.specs.declared.refusals.Refusal.{Refusal}
 use Rattle.numeric.specs.Post.{fold}
-use Rattle.ast.specs.Operators as Operator
 use Rattle.ast.specs.NameKinds as Kind
-use Rattle.ast.specs.Rules.{rule_of}
+use Rattle.ast.specs.Rules.{Rule, return, member, entity, pointer, plain, rule_at}
 use Rattle.ast.specs.Node.{op_at, count_at, first_at}
 use Rattle.program.specs.Kinds as Flag
 use Rattle.program.specs.Opcodes as O
 use Rattle.program.specs.Image.{VAR_ROOT, TEMP_ROOT, OTHER_ROOT}
-use Rattle.code.specs.Segments.{BREAK, CONTINUE}
 use Rattle.payload.specs.declared.NameRef.{NameRef}
 use Rattle.payload.specs.declared.Payload.{Payload}
 use Rattle.payload.specs.Payloads.{payload_ref_at}
@@ -24,13 +22,8 @@ use Rattle.lowering.specs.declared.interning.VariableIdx.TheVariants.{Name, Temp
 use Rattle.lowering.specs.Payloads.{as_name, as_hash, as_math, as_query, float_of, const_of, string_of, resource_of}
 use Rattle.lowering.specs.Steps.{flagged, not_float_only}
 use Rattle.lowering.specs.Parts.{Step, ◌>>◌, ◌>>=◌, either, instr, going, with_const, with_hash, with_name, with_temp, with_member}
-use Rattle.lowering.specs.Parts.{post_bits, with_post, put_post, jump_out}
+use Rattle.lowering.specs.Parts.{post_bits, with_post, put_post}
 use Rattle.lowering.specs.Parts.{path_added, store_added}
-
--- the value of the first key that is r, and d where none is
-unfoldable pub among : List (ℕ × Held) → ℕ → Held → Held
-among [] r d = d
-among (e ∷ l) r d = cond (eqb r e.0) e.1 (among l r d)
 
 -- a state with the index of a variable or a temp, if there is one
 pub record VariableEntry : Type 0 where
@@ -62,12 +55,35 @@ abbrev pub with_path : Option PathEnd → (PathEnd → Step) → Step
 with_path None f h = failed Refusal.Failed h
 with_path (Some e) f h = f e h
 
+-- a member read is a link of a member path; a Return is a statement of its own in a list
+abbrev pub is_member : Rule → Bool
+is_member return = false
+is_member member = true
+is_member entity = false
+is_member pointer = false
+is_member (plain r) = false
+
+abbrev pub is_return : Rule → Bool
+is_return return = true
+is_return member = false
+is_return entity = false
+is_return pointer = false
+is_return (plain r) = false
+
+-- why an assignment's target is refused, if it is
+unfoldable pub refused_target : Rule → Payload → Option Refusal
+refused_target return v = as_name Kind.TEMP v (Some Refusal.Failed) (λ n. None)
+refused_target member v = None
+refused_target entity v = None
+refused_target pointer v = Some Refusal.WriteToOtherMob
+refused_target (plain r) v = as_name Kind.TEMP v (Some Refusal.Failed) (λ n. None)
+
 module _ (t : List ℕ) where
   abbrev pub payload : ℕ → Payload
   payload p = payload_ref_at t p
 
-  abbrev pub rule : ℕ → ℕ
-  rule p = rule_of (op_at t p)
+  abbrev pub rule : ℕ → Rule
+  rule p = rule_at (op_at t p)
 
   -- f with the node's payload if it is a name of that kind, else d; the same for a hash, a host function and a query
   abbrev pub if_name : ℕ → ℕ → Step → (NameRef → Step) → Step
@@ -133,7 +149,7 @@ module _ (t : List ℕ) where
   longer e = record { root = e.root; count = after e.count }
 
   abbrev pub is_link : ℕ → Bool
-  is_link p = eqb (rule p) Operator.MEMBER_ACCESSOR
+  is_link p = is_member (rule p)
 
   unfoldable pub path_end : ℕ → ℕ → Option PathEnd
   path_end zero p = None
@@ -186,12 +202,8 @@ module _ (t : List ℕ) where
     q ← with_post t a
     store_var n p q
 
-  unfoldable pub target_refusal : ℕ → Option Refusal
-  target_refusal p =
-      cond (eqb (rule p) Operator.MEMBER_ACCESSOR) None
-      (cond (eqb (rule p) Operator.ENTITY_VARIABLE) None
-      (cond (eqb (rule p) Operator.POINTER) (Some Refusal.WriteToOtherMob)
-      (as_name Kind.TEMP (payload p) (Some Refusal.Failed) (λ n. None))))
+  abbrev pub target_refusal : ℕ → Option Refusal
+  target_refusal p = refused_target (rule p) (payload p)
 
   -- ---- logic
 
@@ -221,36 +233,3 @@ module _ (t : List ℕ) where
 
   unfoldable pub variable : ℕ → Held → VariableEntry × List ℕ
   variable p h = as_name Kind.ENTITY (payload p) (variable_temp p h) (λ n. variable_of name_kind (B.name n h))
-
-  -- ---- rules without operands, from the last
-
-  abbrev pub leaves : ℕ → Bool → Held → List (ℕ × Held)
-  leaves p l h =
-      (Operator.COMMA, generic p h)
-      ∷ (Operator.CONDITIONAL_ELSE, generic p h)
-      ∷ (Operator.RIGHT_PARENTHESIS, generic p h)
-      ∷ (Operator.RIGHT_BRACKET, generic p h)
-      ∷ (Operator.RIGHT_BRACE, generic p h)
-      ∷ (Operator.LEFT_BRACE, generic p h)
-      ∷ (Operator.PI, generic p h)
-      ∷ (Operator.RETURN, generic p h)
-      ∷ (Operator.CONTINUE, jump_out CONTINUE l h)
-      ∷ (Operator.BREAK, jump_out BREAK l h)
-      ∷ (Operator.CONTEXT_VARIABLE, load p h)
-      ∷ (Operator.TEMP_VARIABLE, load p h)
-      ∷ (Operator.ENTITY_VARIABLE, load p h)
-      ∷ (Operator.THIS, put_post t p O.THIS 0 0 h)
-      ∷ (Operator.TEXTURE, resource p h)
-      ∷ (Operator.MATERIAL, resource p h)
-      ∷ (Operator.GEOMETRY, resource p h)
-      ∷ (Operator.STRING_LITERAL, string_literal p h)
-      ∷ (Operator.FLOAT, constant (float_of (payload p)) h)
-      ∷ (Operator.TEXTURE_VARIABLE, failed Refusal.UsesResources h)
-      ∷ (Operator.MATERIAL_VARIABLE, failed Refusal.UsesResources h)
-      ∷ (Operator.GEOMETRY_VARIABLE, failed Refusal.UsesResources h)
-      ∷ (Operator.EXPRESSION_ARRAY, failed Refusal.UsesArrays h)
-      ∷ (Operator.ARRAY_VARIABLE, failed Refusal.UsesArrays h)
-      ∷ []
-
-  unfoldable pub leaf : ℕ → Bool → ℕ → Step
-  leaf p l r h = among (leaves p l h) r (failed Refusal.Failed h)

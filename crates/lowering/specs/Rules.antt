@@ -1,14 +1,13 @@
 -- What each rule with operands, and the node at a place of the tree image, makes of the builder's state and the workspace's words. Definitions only.
-use Rattle.std.specs.Prelude.{Bool, true, false, cond, List, [], ◌∷◌, ℕ, zero, suc, ◌-◌, eqb, ltb, None}
+use Rattle.std.specs.Prelude.{Bool, true, false, cond, List, ℕ, zero, suc, ◌-◌, eqb, ltb, None}
 use Rattle.answers.specs.declared.refusals.Refusal.TheVariants as Refusal
 use Rattle.numeric.specs.Post.{fold}
 use Rattle.ast.specs.Header.{arrays_of, divisor_of, ROOT, LEVELS}
-use Rattle.ast.specs.Operators as Operator
+use Rattle.ast.specs.Rules as U
 use Rattle.ast.specs.NameKinds as Kind
 use Rattle.ast.specs.Node.{offset_at, count_at, first_at, next_at}
 use Rattle.program.specs.Kinds as Flag
 use Rattle.program.specs.Opcodes as O
-use Rattle.program.specs.Subs as Sub
 use Rattle.program.specs.Image.{bit}
 use Rattle.payload.specs.declared.NameRef.{NameRef}
 use Rattle.program.specs.declared.TheConstants.Depths.{NOTHING_OPEN}
@@ -16,17 +15,18 @@ use Rattle.lowering.specs.Held.{State, Held}
 use Rattle.builder.specs.Steps.{still, failed, pushed}
 use Rattle.lowering.specs.Pools.{Found, after, constant}
 use Rattle.builder.specs.Segments.{opened}
-use Rattle.lowering.specs.Payloads.{const_of}
+use Rattle.code.specs.Segments.{BREAK, CONTINUE}
+use Rattle.lowering.specs.Payloads.{const_of, float_of}
 use Rattle.lowering.specs.Steps.{operand_entered, popped, loop_entered, loop_left, handler_entered, handler_left, flagged, not_float_only, queried}
 use Rattle.lowering.specs.Parts.{Step, ◌>>◌, ◌>>=◌, either, unless_refused, instr}
-use Rattle.lowering.specs.Parts.{post_bits, with_post, put_post, post_instr, emit_jump, with_jump, place_target, resolve_breaks, loop_closed, each_closed}
+use Rattle.lowering.specs.Parts.{post_bits, with_post, put_post, post_instr, emit_jump, with_jump, place_target, resolve_breaks, jump_out, loop_closed, each_closed}
 use Rattle.lowering.specs.Parts.{with_call, argument_closed}
 use Rattle.lowering.specs.Parts.{each_next, where_found}
-unfoldable pub use Rattle.lowering.specs.Leaves.{among, no_variable, variable_of, name_kind, temp_kind, hashed, with_path, payload, rule, if_name, if_hash}
+unfoldable pub use Rattle.lowering.specs.Leaves.{no_variable, variable_of, name_kind, temp_kind, hashed, with_path, payload, rule, if_name, if_hash}
 unfoldable pub use Rattle.lowering.specs.Leaves.{if_math, if_query, load_context, load_temp, load_var, load, string_literal, resource, generic}
-unfoldable pub use Rattle.lowering.specs.Leaves.{member_put, array_put, longer, is_link, path_end, path_hashes, store_as, root_temp, root_var}
-unfoldable pub use Rattle.lowering.specs.Leaves.{store_member, store_temp, store_var, store, target_refusal, compare_const, equal_const, constant_form}
-unfoldable pub use Rattle.lowering.specs.Leaves.{variable_temp, variable, leaves, leaf}
+unfoldable pub use Rattle.lowering.specs.Leaves.{member_put, array_put, longer, is_member, is_return, is_link, path_end, path_hashes, store_as, root_temp, root_var}
+unfoldable pub use Rattle.lowering.specs.Leaves.{store_member, store_temp, store_var, store, refused_target, target_refusal, compare_const, equal_const, constant_form}
+unfoldable pub use Rattle.lowering.specs.Leaves.{variable_temp, variable}
 
 -- ---- rules with operands: E lowers the node at a place with one level fewer, C does as the base of a member path, R a Return of a statement list
 
@@ -136,7 +136,7 @@ module _ (t : List ℕ) (E : ℕ → Bool → Step) (C : ℕ → NameRef → Boo
     post_instr t p
 
   unfoldable pub statement : ℕ → Bool → Step
-  statement q l = either (eqb (rule t q) Operator.RETURN) (R q l) (E q l)
+  statement q l = either (is_return (rule t q)) (R q l) (E q l)
 
   unfoldable pub statements_from : ℕ → ℕ → ℕ → Bool → Step
   statements_from o zero q l h = constant o h
@@ -276,40 +276,43 @@ module _ (t : List ℕ) (E : ℕ → Bool → Step) (C : ℕ → NameRef → Boo
           host_arguments p f count (count - 1) (first_at t p) l
           still (popped (count - 1))))
 
-  -- from the last; n are the children's levels
-  abbrev pub branches : ℕ → ℕ → Bool → Held → List (ℕ × Held)
-  branches n p l h =
-      (Operator.HOST_MATH_VOLATILE, host_math Flag.RANDOM p l h)
-      ∷ (Operator.HOST_MATH, host_math 0 p l h)
-      ∷ (Operator.DIV, div p l h)
-      ∷ (Operator.MUL, bounds O.MUL 0 p l h)
-      ∷ (Operator.ADD, add p l h)
-      ∷ (Operator.LOGICAL_NOT, unary O.NOT 0 p l h)
-      ∷ (Operator.NEGATE, unary O.NEGATE 0 p l h)
-      ∷ (Operator.LEFT_PARENTHESIS, bracket p l h)
-      ∷ (Operator.LEFT_BRACKET, bracket p l h)
-      ∷ (Operator.POINTER, pointer p l h)
-      ∷ (Operator.ASSIGNMENT, assignment n p l h)
-      ∷ (Operator.FOR_EACH, for_each p l h)
-      ∷ (Operator.LOOP, counted_loop p l h)
-      ∷ (Operator.SEMICOLON, statements p l h)
-      ∷ (Operator.CONDITIONAL, conditional p l h)
-      ∷ (Operator.NULL_COALESCING, coalesce p l h)
-      ∷ (Operator.LOGICAL_OR, logic O.OR_STEP O.OR_LAST p l h)
-      ∷ (Operator.LOGICAL_AND, logic O.AND_STEP O.AND_LAST p l h)
-      ∷ (Operator.LOGICAL_NOT_EQUAL, paired O.EQ Sub.NE p l h)
-      ∷ (Operator.LOGICAL_EQUAL, paired O.EQ Sub.EQ p l h)
-      ∷ (Operator.GREATER_THAN, paired O.CMP Sub.GT p l h)
-      ∷ (Operator.GREATER_EQUAL, paired O.CMP Sub.GE p l h)
-      ∷ (Operator.LESS_EQUAL, paired O.CMP Sub.LE p l h)
-      ∷ (Operator.LESS_THAN, paired O.CMP Sub.LT p l h)
-      ∷ (Operator.QUERY_FUNCTION, query p h)
-      ∷ (Operator.MEMBER_ACCESSOR, member_read p l h)
-      ∷ (Operator.ARRAY, array_element p l h)
-      ∷ []
-
-  unfoldable pub branch : ℕ → ℕ → Bool → ℕ → Step
-  branch n p l r h = among (branches n p l h) r (leaf t p l r h)
+  -- the node by its rule; n are the children's levels
+  unfoldable pub branch : ℕ → ℕ → Bool → U.Rule → Step
+  branch n p l U.return = generic t p
+  branch n p l U.member = member_read p l
+  branch n p l U.entity = load t p
+  branch n p l U.pointer = pointer p l
+  branch n p l (U.plain U.array) = array_element p l
+  branch n p l (U.plain U.uses_arrays) = failed Refusal.UsesArrays
+  branch n p l (U.plain U.uses_resources) = failed Refusal.UsesResources
+  branch n p l (U.plain U.float) = constant (float_of (payload t p))
+  branch n p l (U.plain U.string) = string_literal t p
+  branch n p l (U.plain U.resource) = resource t p
+  branch n p l (U.plain U.this) = put_post t p O.THIS 0 0
+  branch n p l (U.plain U.load) = load t p
+  branch n p l (U.plain U.query) = query p
+  branch n p l (U.plain (U.compare o)) = paired O.CMP o p l
+  branch n p l (U.plain (U.equal o)) = paired O.EQ o p l
+  branch n p l (U.plain (U.logic true)) = logic O.AND_STEP O.AND_LAST p l
+  branch n p l (U.plain (U.logic false)) = logic O.OR_STEP O.OR_LAST p l
+  branch n p l (U.plain U.coalesce) = coalesce p l
+  branch n p l (U.plain U.conditional) = conditional p l
+  branch n p l (U.plain U.statements) = statements p l
+  branch n p l (U.plain U.loop) = counted_loop p l
+  branch n p l (U.plain U.for_each) = for_each p l
+  branch n p l (U.plain U.break) = jump_out BREAK l
+  branch n p l (U.plain U.continue) = jump_out CONTINUE l
+  branch n p l (U.plain U.assign) = assignment n p l
+  branch n p l (U.plain U.bracket) = bracket p l
+  branch n p l (U.plain (U.unary true)) = unary O.NEGATE 0 p l
+  branch n p l (U.plain (U.unary false)) = unary O.NOT 0 p l
+  branch n p l (U.plain U.add) = add p l
+  branch n p l (U.plain U.mul) = bounds O.MUL 0 p l
+  branch n p l (U.plain U.div) = div p l
+  branch n p l (U.plain (U.host_math false)) = host_math 0 p l
+  branch n p l (U.plain (U.host_math true)) = host_math Flag.RANDOM p l
+  branch n p l (U.plain U.generic) = generic t p
+  branch n p l (U.plain U.refused) = failed Refusal.Failed
 
 -- ---- the node at a place, to so many levels: as an expression, as the base of a member path, as a Return of a statement list
 

@@ -12,7 +12,7 @@ use crate::parts::instr;
 use crate::steps::{flag, not_float_only};
 use crate::{Builder, interning, regions};
 use answers::refusals::Refusal;
-use ast::operators;
+use ast::rules::Rule;
 use payload::{Payload, payload_of};
 use program::opcodes::Opcode;
 use program::{Flags, PostIdx, StoreIdx};
@@ -34,12 +34,12 @@ fn path_end(node: Node<'_>, levels: u16) -> Option<PathEnd>
     if levels == 0 {
         return None;
     }
-    if node.rule() != operators::MEMBER_ACCESSOR {
+    let Rule::Member = node.rule() else {
         return Some(PathEnd {
             root: node.at,
             count: 0,
         });
-    }
+    };
     let p = payload_of(node);
     let Payload::Member(_) = p else {
         return None;
@@ -69,9 +69,9 @@ fn path_hashes(b: &mut Builder<'_>, node: Node<'_>, levels: u16)
     if levels == 0 {
         return;
     }
-    if node.rule() != operators::MEMBER_ACCESSOR {
+    let Rule::Member = node.rule() else {
         return;
-    }
+    };
     let p = payload_of(node);
     let Payload::Member(n) = p else {
         return;
@@ -151,9 +151,9 @@ fn store_under(b: &mut Builder<'_>, node: Node<'_>, e: PathEnd, levels: u16, q: 
 fn store_member(b: &mut Builder<'_>, node: Node<'_>, levels: u16, q: PostIdx)
     ensures { Did b.old b.new (R.store_member (bytes node.entry) levels node.entry.at q.0) }
 {
-    if node.rule() != operators::MEMBER_ACCESSOR {
+    let Rule::Member = node.rule() else {
         return b.failed(Refusal::Failed);
-    }
+    };
     let Some(e) = path_end(node, levels) else {
         return b.failed(Refusal::Failed);
     };
@@ -179,14 +179,14 @@ pub(crate) fn store(b: &mut Builder<'_>, node: Node<'_>, levels: u16, q: PostIdx
 }
 
 // Why the target is refused before anything is lowered, if it is.
-#[tactic(auto, unfolding(crate::specs::Leaves::target_refusal, crate::specs::Payloads::as_name, crate::specs::Payloads::cases))]
+#[tactic(auto, unfolding(crate::specs::Leaves::refused_target, crate::specs::Payloads::as_name, crate::specs::Payloads::cases))]
 pub(crate) fn target_refusal(node: Node<'_>) -> Option<Refusal>
     ensures { result ≡ R.target_refusal (bytes node.entry) node.entry.at }
 {
     match node.rule() {
-        operators::MEMBER_ACCESSOR => None,
-        operators::ENTITY_VARIABLE => None,
-        operators::POINTER => Some(Refusal::WriteToOtherMob),
+        Rule::Member => None,
+        Rule::Entity => None,
+        Rule::Pointer => Some(Refusal::WriteToOtherMob),
         _ => match payload_of(node) {
             Payload::Temp(_) => None,
             _ => Some(Refusal::Failed),

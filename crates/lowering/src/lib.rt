@@ -16,7 +16,9 @@ mod values;
 
 ghost use Rattle.std.specs.Prelude.{◌≡◌, List, false, ◌-◌, ◌≤◌, eqb};
 ghost use Rattle.wire.specs.Bytes.{be8};
+ghost use Rattle.ast.specs.Meaning.{meaning};
 ghost use Rattle.ast.specs.Node.{first_at, next_at};
+ghost use Rattle.ast.specs.declared.rules.Rule.TheVariants as TheRules;
 ghost use Rattle.program.specs.Image.{bit};
 ghost use Rattle.program.specs.Opcodes.{number_of};
 ghost use Rattle.program.specs.Subs.{divisor_of};
@@ -28,7 +30,8 @@ ghost use Rattle.lowering.specs.Rules as R;
 ghost use Rattle.lowering.specs.Nodes.{over, lowered_as};
 
 use answers::refusals::Refusal;
-use ast::{header, operators};
+use ast::header;
+use ast::rules::{Plain, Rule};
 use builder::State;
 use code::segment::{Ends, Waiting};
 use depth::Depth;
@@ -37,7 +40,7 @@ use interning::VariableIdx;
 use parts::{emit_jump, instr, place_target, post, post_instr, put_post};
 use payload::{NameRef, Payload, payload_of};
 use program::opcodes::Opcode;
-use program::subs::{Comparison, Divisor, Equality};
+use program::subs::Divisor;
 use program::{Depths, Flags, PostIdx};
 use steps::{flag, not_float_only, pop};
 use tree::Node;
@@ -97,81 +100,63 @@ fn start() -> State<Refusal>
     }
 }
 
-// A rule without operands, or the refusal of any other. A `match` on the rule's number here and in `expr`, which is a rule of the project: `expr` calls the
-// rules, and they call `expr`.
-#[tactic(auto, unfolding(crate::specs::Leaves::leaf, crate::specs::Leaves::among))]
-fn leaf(b: &mut Builder<'_>, node: Node<'_>, looping: bool, rule: u8)
-    ensures { Did b.old b.new (R.leaf (bytes node.entry) node.entry.at looping rule) }
-{
-    match rule {
-        operators::ARRAY_VARIABLE => b.failed(Refusal::UsesArrays),
-        operators::EXPRESSION_ARRAY => b.failed(Refusal::UsesArrays),
-        operators::GEOMETRY_VARIABLE => b.failed(Refusal::UsesResources),
-        operators::MATERIAL_VARIABLE => b.failed(Refusal::UsesResources),
-        operators::TEXTURE_VARIABLE => b.failed(Refusal::UsesResources),
-        operators::FLOAT => values::float(b, node),
-        operators::STRING_LITERAL => values::string_literal(b, node),
-        operators::GEOMETRY => values::resource(b, node),
-        operators::MATERIAL => values::resource(b, node),
-        operators::TEXTURE => values::resource(b, node),
-        operators::THIS => put_post(b, node, Opcode::This, 0, 0),
-        operators::ENTITY_VARIABLE => values::load(b, node),
-        operators::TEMP_VARIABLE => values::load(b, node),
-        operators::CONTEXT_VARIABLE => values::load(b, node),
-        operators::BREAK => control::jump_out(b, Waiting::Break, looping),
-        operators::CONTINUE => control::jump_out(b, Waiting::Continue, looping),
-        operators::RETURN => values::generic_constant(b, node),
-        operators::PI => values::generic_constant(b, node),
-        operators::LEFT_BRACE => values::generic_constant(b, node),
-        operators::RIGHT_BRACE => values::generic_constant(b, node),
-        operators::RIGHT_BRACKET => values::generic_constant(b, node),
-        operators::RIGHT_PARENTHESIS => values::generic_constant(b, node),
-        operators::CONDITIONAL_ELSE => values::generic_constant(b, node),
-        operators::COMMA => values::generic_constant(b, node),
-        _ => b.failed(Refusal::Failed),
-    }
-}
-
-// The node as an expression.
+// The node as an expression. A `match` on the rule here and in `plain`, which is a rule of the project: `expr` calls the rules, and they call `expr`.
 #[cycle(expression)]
-#[tactic(auto, unfolding(crate::specs::Rules::expr, crate::specs::Rules::branch, crate::specs::Leaves::among))]
+#[tactic(auto, unfolding(crate::specs::Rules::expr, crate::specs::Rules::branch))]
 fn expr(b: &mut Builder<'_>, node: Node<'_>, inside: Inside)
     ensures { Did b.old b.new (R.expr (bytes node.entry) inside.levels node.entry.at inside.looping) }
 {
     if inside.levels == 0 {
         return b.failed(Refusal::Failed);
     }
-    let rule = node.rule();
     let n = inside.deeper();
+    match node.rule() {
+        Rule::Return => values::generic_constant(b, node),
+        Rule::Member => member(b, node, n),
+        Rule::Entity => values::load(b, node),
+        Rule::Pointer => pointer(b, node, n),
+        Rule::Plain(rule) => plain(b, node, rule, n),
+    }
+}
+
+// The node by a rule that no other rule looks at.
+#[cycle(expression)]
+#[tactic(auto, unfolding(crate::specs::Rules::branch))]
+fn plain(b: &mut Builder<'_>, node: Node<'_>, rule: Plain, inside: Inside)
+    ensures { Did b.old b.new (over node.entry inside.levels R.branch inside.levels node.entry.at inside.looping (meaning (TheRules.Plain rule))) }
+{
     match rule {
-        operators::ARRAY => element(b, node, n),
-        operators::MEMBER_ACCESSOR => member(b, node, n),
-        operators::QUERY_FUNCTION => query(b, node, n.levels),
-        operators::LESS_THAN => paired(b, node, Opcode::Cmp, Comparison::Lt.into(), n),
-        operators::LESS_EQUAL => paired(b, node, Opcode::Cmp, Comparison::Le.into(), n),
-        operators::GREATER_EQUAL => paired(b, node, Opcode::Cmp, Comparison::Ge.into(), n),
-        operators::GREATER_THAN => paired(b, node, Opcode::Cmp, Comparison::Gt.into(), n),
-        operators::LOGICAL_EQUAL => paired(b, node, Opcode::Eq, Equality::Eq.into(), n),
-        operators::LOGICAL_NOT_EQUAL => paired(b, node, Opcode::Eq, Equality::Ne.into(), n),
-        operators::LOGICAL_AND => logic(b, node, Opcode::AndStep, Opcode::AndLast, n),
-        operators::LOGICAL_OR => logic(b, node, Opcode::OrStep, Opcode::OrLast, n),
-        operators::NULL_COALESCING => coalesce(b, node, n),
-        operators::CONDITIONAL => conditional(b, node, n),
-        operators::SEMICOLON => statements(b, node, n),
-        operators::LOOP => repeat(b, node, n),
-        operators::FOR_EACH => for_each(b, node, n),
-        operators::ASSIGNMENT => assignment(b, node, n),
-        operators::POINTER => pointer(b, node, n),
-        operators::LEFT_BRACKET => par(b, node, n),
-        operators::LEFT_PARENTHESIS => par(b, node, n),
-        operators::NEGATE => unary(b, node, Opcode::Negate, 0, n),
-        operators::LOGICAL_NOT => unary(b, node, Opcode::Not, 0, n),
-        operators::ADD => add(b, node, n),
-        operators::MUL => bounds(b, node, Opcode::Mul, 0, n),
-        operators::DIV => div(b, node, n),
-        operators::HOST_MATH => host_math(b, node, 0, n),
-        operators::HOST_MATH_VOLATILE => host_math(b, node, Flags::RANDOM, n),
-        _ => leaf(b, node, inside.looping, rule),
+        Plain::Array => element(b, node, inside),
+        Plain::UsesArrays => b.failed(Refusal::UsesArrays),
+        Plain::UsesResources => b.failed(Refusal::UsesResources),
+        Plain::Float => values::float(b, node),
+        Plain::String => values::string_literal(b, node),
+        Plain::Resource => values::resource(b, node),
+        Plain::This => put_post(b, node, Opcode::This, 0, 0),
+        Plain::Load => values::load(b, node),
+        Plain::Query => query(b, node, inside.levels),
+        Plain::Compare(o) => paired(b, node, Opcode::Cmp, o.into(), inside),
+        Plain::Equal(o) => paired(b, node, Opcode::Eq, o.into(), inside),
+        Plain::And => logic(b, node, Opcode::AndStep, Opcode::AndLast, inside),
+        Plain::Or => logic(b, node, Opcode::OrStep, Opcode::OrLast, inside),
+        Plain::Coalesce => coalesce(b, node, inside),
+        Plain::Conditional => conditional(b, node, inside),
+        Plain::Statements => statements(b, node, inside),
+        Plain::Loop => repeat(b, node, inside),
+        Plain::ForEach => for_each(b, node, inside),
+        Plain::Break => control::jump_out(b, Waiting::Break, inside.looping),
+        Plain::Continue => control::jump_out(b, Waiting::Continue, inside.looping),
+        Plain::Assign => assignment(b, node, inside),
+        Plain::Bracket => par(b, node, inside),
+        Plain::Negate => unary(b, node, Opcode::Negate, 0, inside),
+        Plain::Not => unary(b, node, Opcode::Not, 0, inside),
+        Plain::Add => add(b, node, inside),
+        Plain::Mul => bounds(b, node, Opcode::Mul, 0, inside),
+        Plain::Div => div(b, node, inside),
+        Plain::HostMath => host_math(b, node, 0, inside),
+        Plain::HostMathVolatile => host_math(b, node, Flags::RANDOM, inside),
+        Plain::Generic => values::generic_constant(b, node),
+        Plain::Refused => b.failed(Refusal::Failed),
     }
 }
 
@@ -207,9 +192,9 @@ fn chain(b: &mut Builder<'_>, node: Node<'_>, last: NameRef, inside: Inside)
     if inside.levels == 0 {
         return b.failed(Refusal::Failed);
     }
-    if node.rule() != operators::MEMBER_ACCESSOR {
+    let Rule::Member = node.rule() else {
         return expr(b, node, inside);
-    }
+    };
     if node.count() == 0 {
         return b.failed(Refusal::Failed);
     }
@@ -619,10 +604,10 @@ fn statements(b: &mut Builder<'_>, node: Node<'_>, inside: Inside)
 fn item(b: &mut Builder<'_>, node: Node<'_>, inside: Inside)
     ensures { Did b.old b.new (lowered_as node.entry inside R.statement) }
 {
-    if node.rule() == operators::RETURN {
-        return ret(b, node, inside);
+    match node.rule() {
+        Rule::Return => ret(b, node, inside),
+        _ => expr(b, node, inside),
     }
-    expr(b, node, inside);
 }
 
 // A Return of a statement list.

@@ -1,9 +1,8 @@
 -- The lowering in words is the lowering: for every node of an accepted image, each rule, and the whole tree. Assumes nothing.
-use Rattle.std.proofs.Common.{◌≡◌, refl, sym, subst, Bool, true, cond, List, [], ℕ, zero, suc, ◌+◌, ◌≤◌, ◌<◌, arith, length, get_or, eqb}
+use Rattle.std.proofs.Common.{refl, sym, subst, Bool, true, false, cond, List, [], ℕ, zero, suc, ◌≤◌, arith, length}
 use Rattle.answers.specs.declared.refusals.Refusal.TheVariants as Refusal
-use native.Mathlib.Decide.{dec_lt}
 use Rattle.ast.specs.Rules as U
-use Rattle.ast.specs.Rules.{Rule, rules, rule_of, rule_at}
+use Rattle.ast.specs.Rules.{Rule, rule_at}
 use Rattle.ast.specs.Tree.{Forest}
 use Rattle.ast.specs.Node.{op_at, payload_at, count_at, first_at, next_at, trees, tree_at}
 use Rattle.program.specs.Program.{Counts, Program}
@@ -48,14 +47,10 @@ still_pending S ts c j s h =
 
 -- ---- every rule
 
-infixr 50 ◌▸◌
-◌▸◌ : {A B : Type 0} → A → B → A × B
-a ▸ b = (a, b)
-
 module _ (tree : List ℕ) (short : length tree ≤ 6144) (n : ℕ) (le : n ≤ LEVELS) (E : ℕ → Bool → Step) (C : ℕ → NameRef → Bool → Step) (Z : ℕ → Bool → Step) (p : ℕ) (sound : NodeSound tree p) (first : 1 ≤ count_at tree p → Sound n tree (first_at tree p))
     (xs : List Lowerings) (k : Children tree E C Z xs (count_at tree p) (first_at tree p)) (pends : (c : Counts) (j : ℕ) (s : State) → Pending j s.pools.calls → Pending j (arguments xs c s).state.pools.calls) where
-  abbrev lowerings_of : ℕ → Lowerings
-  lowerings_of i = lower_rule (settings tree) (get_or rules i (U.plain U.refused)) (L.post_bits tree p) (payload_at tree p) (trees (tree_at n tree) tree (count_at tree p) (first_at tree p)) xs
+  abbrev lowerings_of : Rule → Lowerings
+  lowerings_of r = lower_rule (settings tree) r (L.post_bits tree p) (payload_at tree p) (trees (tree_at n tree) tree (count_at tree p) (first_at tree p)) xs
 
   -- the three views of a node: an expression, a statement of a list, the base of a member path
   pub record Views (x : Lowerings) (expr statement : Bool → Step) (base : NameRef → Bool → Step) : Type 0 where
@@ -63,93 +58,53 @@ module _ (tree : List ℕ) (short : length tree ≤ 6144) (n : ℕ) (le : n ≤ 
     pub as_statement : (l : Bool) (c : Counts) → Does tree (x.statement l) c (statement l)
     pub as_base : (last : NameRef) → TextOf tree last → (l : Bool) (c : Counts) → Does tree (x.base (named tree last) l) c (base last l)
 
-  -- of a node whose rule has that number
-  abbrev ViewsAt : ℕ → Type 0
-  ViewsAt i = Views (lowerings_of i) (λ l. R.branch tree E C Z n p l i)
-      (λ l h. cond (eqb i 44) (R.ret tree E C Z p l h) (R.branch tree E C Z n p l i h))
-      (λ last l h. cond (eqb i 16) (R.chained tree E C Z p last l h) (R.branch tree E C Z n p l i h))
+  -- of a node of that rule
+  abbrev ViewsOf : Rule → Type 0
+  ViewsOf r = Views (lowerings_of r) (λ l. R.branch tree E C Z n p l r)
+      (λ l h. cond (R.is_return r) (R.ret tree E C Z p l h) (R.branch tree E C Z n p l r h))
+      (λ last l h. cond (R.is_member r) (R.chained tree E C Z p last l h) (R.branch tree E C Z n p l r h))
 
   -- one view for all three
   alike : {f : Bool → Lowering} {F : Bool → Step} → ((l : Bool) (c : Counts) → Does tree (f l) c (F l)) → Views (D.alike (settings tree) f) F F (λ last. F)
   alike d = record { as_expr = d; as_statement = d; as_base = λ last t. d }
 
-  -- all numbers up to 52
-  abbrev Upward : ℕ → ℕ → Type 0
-  Upward i zero = Unit {0}
-  Upward i (suc m) = ViewsAt i × Upward (suc i) m
-
-  pick : (i m j : ℕ) → i ≤ j → j < i + m → Upward i m → ViewsAt j
-  pick i zero j a b u = absurd (omega arith)
-  pick i (suc m) j a b u = go (dec_lt i j) u (λ l v. pick (suc i) m j l (omega arith) v)
-    where
-      go : Dec (i < j) → Upward i (suc m) → (suc i ≤ j → Upward (suc i) m → ViewsAt j) → ViewsAt j
-      go (yes l) u f = f l u.1
-      go (no l) u f = let e : i ≡ j = omega arith in subst (λ (x : ℕ). ViewsAt x) e u.0
-
-  all : Upward 0 53
-  unfolding rules lower_rule lower_plain R.branch R.among R.leaf R.query settings
-  all =
-      alike (λ l c. failing_does Refusal.Failed)
-      ▸ alike (λ l c. array_does p sound short E C Z xs k l)
-      ▸ alike (λ l c. failing_does Refusal.UsesArrays)
-      ▸ alike (λ l c. failing_does Refusal.UsesArrays)
-      ▸ alike (λ l c. failing_does Refusal.UsesResources)
-      ▸ alike (λ l c. failing_does Refusal.UsesResources)
-      ▸ alike (λ l c. failing_does Refusal.UsesResources)
-      ▸ alike (λ l c. float_does p)
-      ▸ alike (λ l c. string_does p)
-      ▸ alike (λ l c. resource_does p)
-      ▸ alike (λ l c. resource_does p)
-      ▸ alike (λ l c. resource_does p)
-      ▸ alike (λ l c. this_does p)
-      ▸ alike (λ l c. load_does p sound short)
-      ▸ alike (λ l c. load_does p sound short)
-      ▸ alike (λ l c. load_does p sound short)
-      ▸ record { as_expr = λ l c. member_does' p sound short E C Z xs k l; as_statement = λ l c. member_does' p sound short E C Z xs k l; as_base = λ last t l c. chained_does p sound short E C Z xs k last t l }
-      ▸ alike (λ l c. as_query_lem p (failing_does Refusal.Failed) (λ i m. query_does tree E C Z c p i m xs k (pends c)))
-      ▸ alike (λ l c. compare_does tree E C Z p xs k l 0)
-      ▸ alike (λ l c. compare_does tree E C Z p xs k l 1)
-      ▸ alike (λ l c. compare_does tree E C Z p xs k l 2)
-      ▸ alike (λ l c. compare_does tree E C Z p xs k l 3)
-      ▸ alike (λ l c. equal_does tree E C Z p xs k l 0)
-      ▸ alike (λ l c. equal_does tree E C Z p xs k l 1)
-      ▸ alike (λ l c. and_does tree E C Z p xs k l)
-      ▸ alike (λ l c. or_does tree E C Z p xs k l)
-      ▸ alike (λ l c. coalesce_does tree E C Z p xs k l)
-      ▸ alike (λ l c. conditional_does tree E C Z p xs k l)
-      ▸ alike (λ l c. statements_does tree E C Z p xs k l)
-      ▸ alike (λ l c. loop_rule tree E C Z p xs k l)
-      ▸ alike (λ l c. each_rule tree E C Z p xs k l n first short)
-      ▸ alike (λ l c. jump_out_lem to_cleanup l l refl refl)
-      ▸ alike (λ l c. jump_out_lem to_check l l refl refl)
-      ▸ alike (λ l c. assign_rule tree E C Z p xs k l n le first short)
-      ▸ alike (λ l c. pointer_does tree E C Z p xs k l)
-      ▸ alike (λ l c. bracket_does tree E C Z p xs k l)
-      ▸ alike (λ l c. bracket_does tree E C Z p xs k l)
-      ▸ alike (λ l c. negate_does tree E C Z p xs k l)
-      ▸ alike (λ l c. not_does tree E C Z p xs k l)
-      ▸ alike (λ l c. add_does tree E C Z p xs k l)
-      ▸ alike (λ l c. mul_does tree E C Z p xs k l)
-      ▸ alike (λ l c. div_does tree E C Z p xs k l)
-      ▸ alike (λ l c. math_does tree E C Z p xs k l 0)
-      ▸ alike (λ l c. math_does tree E C Z p xs k l 1536)
-      ▸ record { as_expr = λ l c. generic_does p; as_statement = λ l c. return_does tree E C Z p xs k l; as_base = λ last t l c. generic_does p }
-      ▸ alike (λ l c. generic_does p)
-      ▸ alike (λ l c. generic_does p)
-      ▸ alike (λ l c. generic_does p)
-      ▸ alike (λ l c. generic_does p)
-      ▸ alike (λ l c. generic_does p)
-      ▸ alike (λ l c. generic_does p)
-      ▸ alike (λ l c. generic_does p)
-      ▸ alike (λ l c. failing_does Refusal.Failed)
-      ▸ tt
-
-  pub views : (i : ℕ) → i ≤ 52 → ViewsAt i
-  views i l = pick 0 53 i (omega arith) (omega arith) all
-
-rule_small : (op : ℕ) → rule_of op ≤ 52
-unfolding rule_of
-rule_small op = grind arith
+  pub views : (r : Rule) → ViewsOf r
+  unfolding lower_rule lower_plain R.branch R.query settings
+  views U.return = record { as_expr = λ l c. generic_does p; as_statement = λ l c. return_does tree E C Z p xs k l; as_base = λ last t l c. generic_does p }
+  views U.member = record { as_expr = λ l c. member_does' p sound short E C Z xs k l; as_statement = λ l c. member_does' p sound short E C Z xs k l; as_base = λ last t l c. chained_does p sound short E C Z xs k last t l }
+  views U.entity = alike (λ l c. load_does p sound short)
+  views U.pointer = alike (λ l c. pointer_does tree E C Z p xs k l)
+  views (U.plain U.array) = alike (λ l c. array_does p sound short E C Z xs k l)
+  views (U.plain U.uses_arrays) = alike (λ l c. failing_does Refusal.UsesArrays)
+  views (U.plain U.uses_resources) = alike (λ l c. failing_does Refusal.UsesResources)
+  views (U.plain U.float) = alike (λ l c. float_does p)
+  views (U.plain U.string) = alike (λ l c. string_does p)
+  views (U.plain U.resource) = alike (λ l c. resource_does p)
+  views (U.plain U.this) = alike (λ l c. this_does p)
+  views (U.plain U.load) = alike (λ l c. load_does p sound short)
+  views (U.plain U.query) = alike (λ l c. as_query_lem p (failing_does Refusal.Failed) (λ i m. query_does tree E C Z c p i m xs k (pends c)))
+  views (U.plain (U.compare o)) = alike (λ l c. compare_does tree E C Z p xs k l o)
+  views (U.plain (U.equal o)) = alike (λ l c. equal_does tree E C Z p xs k l o)
+  views (U.plain (U.logic true)) = alike (λ l c. and_does tree E C Z p xs k l)
+  views (U.plain (U.logic false)) = alike (λ l c. or_does tree E C Z p xs k l)
+  views (U.plain U.coalesce) = alike (λ l c. coalesce_does tree E C Z p xs k l)
+  views (U.plain U.conditional) = alike (λ l c. conditional_does tree E C Z p xs k l)
+  views (U.plain U.statements) = alike (λ l c. statements_does tree E C Z p xs k l)
+  views (U.plain U.loop) = alike (λ l c. loop_rule tree E C Z p xs k l)
+  views (U.plain U.for_each) = alike (λ l c. each_rule tree E C Z p xs k l n first short)
+  views (U.plain U.break) = alike (λ l c. jump_out_lem to_cleanup l l refl refl)
+  views (U.plain U.continue) = alike (λ l c. jump_out_lem to_check l l refl refl)
+  views (U.plain U.assign) = alike (λ l c. assign_rule tree E C Z p xs k l n le first short)
+  views (U.plain U.bracket) = alike (λ l c. bracket_does tree E C Z p xs k l)
+  views (U.plain (U.unary true)) = alike (λ l c. negate_does tree E C Z p xs k l)
+  views (U.plain (U.unary false)) = alike (λ l c. not_does tree E C Z p xs k l)
+  views (U.plain U.add) = alike (λ l c. add_does tree E C Z p xs k l)
+  views (U.plain U.mul) = alike (λ l c. mul_does tree E C Z p xs k l)
+  views (U.plain U.div) = alike (λ l c. div_does tree E C Z p xs k l)
+  views (U.plain (U.host_math false)) = alike (λ l c. math_does tree E C Z p xs k l 0)
+  views (U.plain (U.host_math true)) = alike (λ l c. math_does tree E C Z p xs k l 1536)
+  views (U.plain U.generic) = alike (λ l c. generic_does p)
+  views (U.plain U.refused) = alike (λ l c. failing_does Refusal.Failed)
 
 -- ---- every node
 
@@ -161,10 +116,10 @@ module _ (tree : List ℕ) (short : length tree ≤ 6144) where
   children n (suc m) q f s = (f q s.0, children n m (next_at tree q) f s.1)
 
   pub child : (n : ℕ) → n ≤ LEVELS → (q : ℕ) → Sound n tree q → Child tree (R.expr tree n) (R.chain tree n) (R.returned tree n) (lower (settings tree) (tree_at n tree q)) q
-  unfolding lower tree_at rule_at R.expr R.chain R.returned R.statement
+  unfolding lower tree_at R.expr R.chain R.returned R.statement
   child zero le q s = absurd s
   child (suc n) le q s =
       let ts = trees (tree_at n tree) tree (count_at tree q) (first_at tree q) in
       let k = children n (count_at tree q) (first_at tree q) (λ r t. child n (omega arith) r t) s.1 in
-      let w = views tree short n (omega arith) (R.expr tree n) (R.chain tree n) (R.returned tree n) q s.0 (λ l. first_sound n tree q l s) (lowers (settings tree) ts) k (still_pending (settings tree) ts) (rule_of (op_at tree q)) (rule_small (op_at tree q)) in
+      let w = views tree short n (omega arith) (R.expr tree n) (R.chain tree n) (R.returned tree n) q s.0 (λ l. first_sound n tree q l s) (lowers (settings tree) ts) k (still_pending (settings tree) ts) (rule_at (op_at tree q)) in
       record { expr_is = w.as_expr; statement_is = w.as_statement; base_is = w.as_base }

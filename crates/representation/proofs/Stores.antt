@@ -8,7 +8,7 @@ use lib.Bits.{bit_and, bit_or}
 use lib.Seq.{sets}
 use Rattle.ast.specs.Tree as T
 use Rattle.ast.specs.Header.{LEVELS}
-use Rattle.ast.specs.Rules.{refused, Rule, plain, rules, rule_of, rule_at}
+use Rattle.ast.specs.Rules.{Rule, return, member, entity, pointer, plain, rule_at}
 use Rattle.ast.specs.Node.{op_at, payload_at, count_at, first_at, trees, tree_at}
 use Rattle.program.specs.Kinds.{USES_MEMBERS}
 use Rattle.program.specs.Instruction as I
@@ -49,7 +49,7 @@ use Rattle.representation.proofs.Laws.{flags_move, flagged_does}
 use Rattle.representation.proofs.OpenCode.{failing_does}
 use Rattle.representation.proofs.Branches.{instr_does}
 use Rattle.representation.proofs.Sound.{NodeSound, Sound, node_sound, first_sound, as_name_lem}
-use Rattle.representation.proofs.TargetRules.{by_rule, member_same}
+use Rattle.representation.proofs.TargetRules.{member_same}
 
 -- ---- paths
 
@@ -122,18 +122,19 @@ module _ (tree : List ℕ) (n : ℕ) (short : n ≤ LEVELS) where
   link_payload (Query q) m o G i = refl
   link_payload (HostMath b) m o G i = refl
 
-  -- by the rule's number
+  -- by the node's rule
   link_rule : (p : ℕ) → NodeSound tree p → (m : P.Path) (o : Option PathEnd) (G : Step)
       → PathIs tree (suc n) (P.as_name 6 (payload_at tree p) P.no_path (λ y. P.longer y.hash m)) o G
-      → (k : ℕ) → PathIs tree (suc n) (P.link (get_or rules k (plain refused)) (payload_at tree p) m) (cond (eqb k 16) o (Some (record { root = p; count = 0 }))) (λ h. cond (eqb k 16) (G h) h)
+      → (r : Rule) → PathIs tree (suc n) (P.link r (payload_at tree p) m) (cond (R.is_member r) o (Some (record { root = p; count = 0 }))) (λ h. cond (R.is_member r) (G h) h)
   unfolding P.link
-  link_rule p s m o G i k =
-      by_rule (λ (k : ℕ) (r : Rule). PathIs tree (suc n) (P.link r (payload_at tree p) m) (cond (eqb k 16) o (Some (record { root = p; count = 0 }))) (λ h. cond (eqb k 16) (G h) h))
-      i (root_path_lem tree (suc n) p s) (root_path_lem tree (suc n) p s) (root_path_lem tree (suc n) p s)
-      (λ k r a b c. subst (λ (z : Bool). PathIs tree (suc n) (P.root_path (payload_at tree p)) (cond z o (Some (record { root = p; count = 0 }))) (λ h. cond z (G h) h)) (sym (ne_eqb k 16 a)) (root_path_lem tree (suc n) p s)) k
+  link_rule p s m o G i return = root_path_lem tree (suc n) p s
+  link_rule p s m o G i member = i
+  link_rule p s m o G i entity = root_path_lem tree (suc n) p s
+  link_rule p s m o G i pointer = root_path_lem tree (suc n) p s
+  link_rule p s m o G i (plain r) = root_path_lem tree (suc n) p s
 
 pub path_is : (tree : List ℕ) (n p : ℕ) → n ≤ LEVELS → Sound n tree p → PathIs tree n (P.path (tree_at n tree p)) (R.path_end tree n p) (R.path_hashes tree n p)
-unfolding P.path tree_at rule_at R.path_end R.path_hashes
+unfolding P.path tree_at R.path_end R.path_hashes
 path_is tree zero p l s = absurd s
 path_is tree (suc n) p l s =
     let q = first_at tree p in
@@ -142,7 +143,7 @@ path_is tree (suc n) p l s =
     let below : PathIs tree (suc n) (P.as_name 6 (payload_at tree p) P.no_path (λ y. P.longer y.hash m)) (Q.as_name 6 (payload_ref_at tree p) None (λ y. o)) (λ h. Q.as_name 6 (payload_ref_at tree p) h (λ y. path_added y.hash (R.path_hashes tree n q h))) =
     subst (λ (v : T.Payload). PathIs tree (suc n) (P.as_name 6 v P.no_path (λ y. P.longer y.hash m)) (Q.as_name 6 (payload_ref_at tree p) None (λ y. o)) (λ h. Q.as_name 6 (payload_ref_at tree p) h (λ y. path_added y.hash (R.path_hashes tree n q h)))) (payload_meant tree p)
     (link_payload tree n (omega arith) (payload_ref_at tree p) m o (R.path_hashes tree n q) (λ x. link_children tree n (omega arith) (count_at tree p) q x (R.path_hashes tree n q) (λ c. path_is tree n q (omega arith) (first_sound n tree p c s)))) in
-    link_rule tree n (omega arith) p s.0 m (Q.as_name 6 (payload_ref_at tree p) None (λ y. o)) (λ h. Q.as_name 6 (payload_ref_at tree p) h (λ y. path_added y.hash (R.path_hashes tree n q h))) below (rule_of (op_at tree p))
+    link_rule tree n (omega arith) p s.0 m (Q.as_name 6 (payload_ref_at tree p) None (λ y. o)) (λ h. Q.as_name 6 (payload_ref_at tree p) h (λ y. path_added y.hash (R.path_hashes tree n q h))) below (rule_at (op_at tree p))
 
 -- ---- the words of a path
 
@@ -357,7 +358,7 @@ module _ (tree : List ℕ) (c : Counts) (n p : ℕ) (few : n ≤ LEVELS) (sound 
   store_member_lem : (q : ℕ) → Does tree (cond (D.is_member (rule_at (op_at tree p)) && path.fine) (D.member_store path q) (failing 7)) c (R.store_member tree n p q)
   unfolding R.store_member
   store_member_lem q =
-      subst (λ (x : Bool). Does tree (cond (x && path.fine) (D.member_store path q) (failing 7)) c (R.store_member tree n p q)) (sym (member_same tree p))
+      subst (λ (x : Bool). Does tree (cond (x && path.fine) (D.member_store path q) (failing 7)) c (R.store_member tree n p q)) (sym (member_same (rule_at (op_at tree p))))
       (member_if q (R.is_link tree p) (R.path_end tree n p) (path_is tree n p few sound))
 
   store_temp_lem : (q : ℕ) → Does tree (P.as_name 5 (payload_at tree p) (cond (D.is_member (rule_at (op_at tree p)) && path.fine) (D.member_store path q) (failing 7)) (λ x. with_temp x λ t. put (I.plain (I.store_temp t q)))) c (R.store_temp tree n p q)

@@ -4,12 +4,14 @@
 ghost use Rattle.std.specs.Prelude.{◌≡◌, ◌<◌, ◌≤◌, length};
 ghost use Rattle.std.specs.Iterator.{at_most};
 ghost use Rattle.wire.specs.Bytes.{reach};
-ghost use Rattle.ast.specs.Rules.{rule_of};
+ghost use Rattle.ast.specs.Rules.{rule_at};
+ghost use Rattle.ast.specs.Meaning.{meaning};
 ghost use Rattle.ast.specs.Kinds.{KindOf};
 ghost use Rattle.ast.specs.Node.{len_at, op_at, scale_at, offset_at, kind_at, size_at, count_at};
 ghost use Rattle.tree.specs.Nodes.{bytes, first_child, next_node, Walks};
 
 use ast::kinds::{Kind, UnknownKind};
+use ast::rules::Rule;
 
 // Two words, which go in registers: with the image's slice in it, of three words, lists of short statements were a third slower.
 #[derive(Clone, Copy, Drop)]
@@ -65,9 +67,9 @@ impl<'a> Node<'a> {
         wire::get_u8(*self.image, self.at, 4)
     }
 
-    // The operator's rule. A number, as the table has it: a code may have no rule.
-    pub fn rule(self) -> u8
-        ensures { result ≡ rule_of (op_at (bytes self.entry) self.entry.at) }
+    // The operator's rule.
+    pub fn rule(self) -> Rule
+        ensures { meaning result ≡ rule_at (op_at (bytes self.entry) self.entry.at) }
     {
         ast::rule(self.op())
     }

@@ -14,6 +14,9 @@ use Rattle.lowering.proofs.+expression.Given as goal
 abbrev pub decreases-expr : goal.decreases-expr
 decreases-expr l = 200000 * l.inside.levels
 
+abbrev pub decreases-plain : goal.decreases-plain
+decreases-plain l = 200000 * l.inside.levels + 90000
+
 abbrev pub decreases-element : goal.decreases-element
 decreases-element l = 200000 * l.inside.levels + 80000
 
