@@ -23,8 +23,8 @@ use Rattle.lowering.specs.Parts.{post_bits, with_post, put_post, post_instr, emi
 use Rattle.lowering.specs.Parts.{with_call, argument_closed}
 use Rattle.lowering.specs.Parts.{each_next}
 unfoldable pub use Rattle.lowering.specs.Leaves.{among, no_variable, variable_of, name_kind, temp_kind, hashed, with_path, payload, rule, if_name, if_hash}
-unfoldable pub use Rattle.lowering.specs.Leaves.{if_math, if_query, variable, with_variable, read_flagged, load_context, load, string_literal, resource, generic}
-unfoldable pub use Rattle.lowering.specs.Leaves.{member_put, array_put, longer, is_link, path_end, path_hashes, store_as, store_under}
+unfoldable pub use Rattle.lowering.specs.Leaves.{if_math, if_query, variable, with_variable, read_flagged, load_context, load}
+unfoldable pub use Rattle.lowering.specs.Leaves.{string_literal, resource, generic, member_put, array_put, longer, is_link, path_end, path_hashes, store_as, store_under}
 unfoldable pub use Rattle.lowering.specs.Leaves.{store_member, store_to, store, target_refusal, compare_const, equal_const, leaves, leaf}
 
 -- ---- rules with operands: E lowers the node at a place with one level fewer, C does as the base of a member path, R a Return of a statement list
