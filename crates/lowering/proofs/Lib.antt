@@ -3,5 +3,3 @@ pub mod Skipped
 pub mod Slots
 pub mod Paths
 pub mod Rounds
-pub mod Others
-pub mod Variables

@@ -9,16 +9,6 @@ use lib.ListN.{length, get_or}
 use Rattle.lowering.specs.Search.{seek}
 
 module _ (hit : ℕ → Bool) where
-  -- a search stays within its run
-  pub seek_within : (n i : ℕ) → (i ≤ seek hit n i) × (seek hit n i ≤ i + n)
-  unfolding seek
-  seek_within zero i = (omega arith, omega arith)
-  seek_within (suc n) i = go (hit i) (seek_within n (suc i))
-    where
-      go : (b : Bool) → (suc i ≤ seek hit n (suc i)) × (seek hit n (suc i) ≤ suc i + n) → (i ≤ cond b i (seek hit n (suc i))) × (cond b i (seek hit n (suc i)) ≤ i + suc n)
-      go true w = (omega arith, omega arith)
-      go false w = (omega arith, omega arith)
-
   -- the first hit of a run, or its end where there is none, is what the search comes to
   pub seek_first : (n i r : ℕ) → i ≤ r → r ≤ i + n → ((j : ℕ) → i ≤ j → j < r → hit j ≡ false) → (r < i + n → hit r ≡ true) → seek hit n i ≡ r
   unfolding seek

@@ -8,7 +8,6 @@ use Rattle.ast.specs.Rules.{Rule, return, member, entity, pointer, plain, rule_a
 use Rattle.ast.specs.Node.{op_at, count_at, first_at}
 use Rattle.program.specs.Kinds as Flag
 use Rattle.program.specs.Opcodes as O
-use Rattle.program.specs.Image.{VAR_ROOT, TEMP_ROOT, OTHER_ROOT}
 use Rattle.payload.specs.declared.NameRef.{NameRef}
 use Rattle.payload.specs.declared.Payload.{Payload}
 use Rattle.payload.specs.Payloads.{payload_ref_at}
@@ -19,9 +18,10 @@ use Rattle.lowering.specs.Pools.{Found, after, constant}
 use Rattle.lowering.specs.declared.assign.PathEnd.{PathEnd}
 use Rattle.lowering.specs.declared.interning.VariableIdx.{VariableIdx}
 use Rattle.lowering.specs.declared.interning.VariableIdx.TheVariants.{Name, Temp}
+use Rattle.lowering.specs.Kinds.{root_kind, root_index}
 use Rattle.lowering.specs.Payloads.{as_name, as_hash, as_math, as_query, float_of, const_of, string_of, resource_of}
 use Rattle.lowering.specs.Steps.{flagged, not_float_only}
-use Rattle.lowering.specs.Parts.{Step, ◌>>◌, ◌>>=◌, either, instr, going, with_const, with_hash, with_name, with_temp, with_member}
+use Rattle.lowering.specs.Parts.{Step, ◌>>◌, ◌>>=◌, either, instr, put_variable, where_found, going, with_const, with_hash, with_name, with_member}
 use Rattle.lowering.specs.Parts.{post_bits, with_post, put_post}
 use Rattle.lowering.specs.Parts.{path_added, store_added}
 
@@ -42,6 +42,11 @@ name_kind k = Name (record { 0 = k })
 
 abbrev pub temp_kind : ℕ → VariableIdx
 temp_kind k = Temp (record { 0 = k })
+
+-- a variable that is read is an actor's
+abbrev pub read_flagged : VariableIdx → Step
+read_flagged (Name n) h = still (flagged Flag.READS_ACTOR_VARS) h
+read_flagged (Temp n) h = h
 
 -- a hash by the instruction that reads it
 abbrev pub hashed : ℕ → ℕ → Step
@@ -98,6 +103,19 @@ module _ (t : List ℕ) where
   abbrev pub if_query : ℕ → Step → (ℕ → ℕ → Step) → Step
   if_query p d f h = as_query (payload p) (d h) (λ i m. f i m h)
 
+  -- ---- variables and temps
+
+  -- the one that the node names is interned; nothing is done where it names neither
+  unfoldable pub variable : ℕ → Held → VariableEntry × List ℕ
+  variable p h =
+      as_name Kind.ENTITY (payload p)
+      (as_name Kind.TEMP (payload p) (no_variable h) (λ n. variable_of temp_kind (B.temp n h)))
+      (λ n. variable_of name_kind (B.name n h))
+
+  -- the step with its index, or the other where it names neither
+  abbrev pub with_variable : ℕ → Step → (VariableIdx → Step) → Step
+  with_variable p other f h = let v = variable p h in where_found v.0.index other f (v.0.state, v.1)
+
   -- ---- values
 
   unfoldable pub load_context : ℕ → ℕ → Step
@@ -106,21 +124,12 @@ module _ (t : List ℕ) where
     k ← with_name n
     instr O.LOAD_CTX 0 k q
 
-  unfoldable pub load_temp : ℕ → ℕ → Step
-  load_temp p q = if_name Kind.TEMP p (load_context p q) λ n. do
-    k ← with_temp n
-    instr O.LOAD_TEMP 0 k q
-
-  unfoldable pub load_var : ℕ → ℕ → Step
-  load_var p q = if_name Kind.ENTITY p (load_temp p q) λ n. do
-    still (flagged Flag.READS_ACTOR_VARS)
-    k ← with_name n
-    instr O.LOAD_VAR 0 k q
-
   unfoldable pub load : ℕ → Step
   load p = do
     q ← with_post t p
-    load_var p q
+    with_variable p (load_context p q) λ i. do
+      read_flagged i
+      put_variable O.LOAD_VAR O.LOAD_TEMP i q
 
   unfoldable pub string_literal : ℕ → Step
   string_literal p = hashed O.HASH (string_of (payload p))
@@ -170,12 +179,11 @@ module _ (t : List ℕ) where
   unfoldable pub store_as : ℕ → ℕ → ℕ → ℕ → ℕ → ℕ → Step
   store_as kind index n p count q h = going (store_added kind index h.0.paths count (path_hashes n p h)) λ k. instr O.STORE_MEMBER 0 k q
 
-  unfoldable pub root_temp : ℕ → ℕ → ℕ → ℕ → ℕ → Step
-  root_temp root n p count q h =
-      as_name Kind.TEMP (payload root) (store_as OTHER_ROOT 0 n p count q h) (λ m. with_temp m (λ k. store_as TEMP_ROOT k n p count q) h)
-
-  unfoldable pub root_var : ℕ → ℕ → ℕ → ℕ → ℕ → Step
-  root_var root n p count q h = as_name Kind.ENTITY (payload root) (root_temp root n p count q h) (λ m. with_name m (λ k. store_as VAR_ROOT k n p count q) h)
+  -- under the root of the path: a variable, a temp, or any other value
+  unfoldable pub store_under : ℕ → ℕ → ℕ → ℕ → ℕ → Step
+  store_under root n p count q h =
+      let v = variable root h in
+      store_as (root_kind v.0.index) (root_index v.0.index) n p count q (v.0.state, v.1)
 
   unfoldable pub store_member : ℕ → ℕ → ℕ → Step
   store_member n p q =
@@ -183,24 +191,17 @@ module _ (t : List ℕ) where
       (with_path (path_end n p) λ e. do
         still not_float_only
         still (flagged Flag.USES_MEMBERS)
-        root_var e.root n p e.count q)
+        store_under e.root n p e.count q)
       (failed Refusal.Failed)
 
-  unfoldable pub store_temp : ℕ → ℕ → ℕ → Step
-  store_temp n p q = if_name Kind.TEMP p (store_member n p q) λ m. do
-    k ← with_temp m
-    instr O.STORE_TEMP 0 k q
+  -- to the target at p, and the same with the post of the node at a
+  unfoldable pub store_to : ℕ → ℕ → ℕ → Step
+  store_to n p q = with_variable p (store_member n p q) λ i. put_variable O.STORE_VAR O.STORE_TEMP i q
 
-  unfoldable pub store_var : ℕ → ℕ → ℕ → Step
-  store_var n p q = if_name Kind.ENTITY p (store_temp n p q) λ m. do
-    k ← with_name m
-    instr O.STORE_VAR 0 k q
-
-  -- to the target at p, with the post of the node at a
   unfoldable pub store : ℕ → ℕ → ℕ → Step
   store n p a = do
     q ← with_post t a
-    store_var n p q
+    store_to n p q
 
   abbrev pub target_refusal : ℕ → Option Refusal
   target_refusal p = refused_target (rule p) (payload p)
@@ -225,11 +226,3 @@ module _ (t : List ℕ) where
   -- the form of an instruction whose second operand is the constant of the payload
   unfoldable pub constant_form : ℕ → ℕ → ℕ → ℕ → Step
   constant_form op sub p q = either (eqb op O.EQ) (equal_const sub p q) (compare_const sub p q)
-
-  -- ---- control
-
-  unfoldable pub variable_temp : ℕ → Held → VariableEntry × List ℕ
-  variable_temp p h = as_name Kind.TEMP (payload p) (no_variable h) (λ n. variable_of temp_kind (B.temp n h))
-
-  unfoldable pub variable : ℕ → Held → VariableEntry × List ℕ
-  variable p h = as_name Kind.ENTITY (payload p) (variable_temp p h) (λ n. variable_of name_kind (B.name n h))

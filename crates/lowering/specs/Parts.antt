@@ -11,7 +11,7 @@ use Rattle.lowering.specs.Regions.{appended_count, appended_words}
 use Rattle.payload.specs.declared.NameRef.{NameRef}
 use Rattle.lowering.specs.Held.{State, Held}
 use Rattle.lowering.specs.declared.interning.VariableIdx.{VariableIdx}
-use Rattle.lowering.specs.declared.interning.VariableIdx.TheVariants.{Name, Temp}
+use Rattle.lowering.specs.Kinds.{one_of, index_of}
 use Rattle.builder.specs.Steps.{emitted, flushed, put, failed}
 use Rattle.lowering.specs.Pools as B
 use Rattle.lowering.specs.Pools.{Found, after}
@@ -44,6 +44,10 @@ front op sub b = op * 16777216 + sub % 256 * 65536 + b % 65536
 
 unfoldable pub instr : ℕ → ℕ → ℕ → ℕ → Step
 instr op sub a b = put (front op sub b) a
+
+-- an instruction of a variable or of a temp, by its index
+unfoldable pub put_variable : ℕ → ℕ → VariableIdx → ℕ → Step
+put_variable variable temp i q = instr (one_of variable temp i) 0 (index_of i) q
 
 -- an entry is interned, and f goes on with its index
 abbrev pub going : Found → (ℕ → Step) → Held
@@ -128,13 +132,12 @@ each_closed begin next h =
 
 -- 01, The program image: "in EachNextVar and EachNextTemp, A is the exit and B the variable"
 unfoldable pub each_next : VariableIdx → Held → Found
-each_next (Name n) = emit_jump O.EACH_NEXT_VAR 0 n.0
-each_next (Temp n) = emit_jump O.EACH_NEXT_TEMP 0 n.0
+each_next i = emit_jump (one_of O.EACH_NEXT_VAR O.EACH_NEXT_TEMP i) 0 (index_of i)
 
--- 01, question 7: "a ForEach variable Entity or Temp under any operator": the step with the variable's index, refused where there is none
-abbrev pub where_found : Option VariableIdx → (VariableIdx → Step) → Step
-where_found None f h = failed Refusal.Failed h
-where_found (Some i) f h = f i h
+-- the step with the index of a variable or a temp, or the other where there is none
+abbrev pub where_found : Option VariableIdx → Step → (VariableIdx → Step) → Step
+where_found None other f h = other h
+where_found (Some i) other f h = f i h
 
 -- a call takes its number, and places for its arguments' starts
 unfoldable pub call_begun : ℕ → ℕ → ℕ → Held → Found

@@ -21,12 +21,11 @@ use Rattle.lowering.specs.Steps.{operand_entered, popped, loop_entered, loop_lef
 use Rattle.lowering.specs.Parts.{Step, ◌>>◌, ◌>>=◌, either, unless_refused, instr}
 use Rattle.lowering.specs.Parts.{post_bits, with_post, put_post, post_instr, emit_jump, with_jump, place_target, resolve_breaks, jump_out, loop_closed, each_closed}
 use Rattle.lowering.specs.Parts.{with_call, argument_closed}
-use Rattle.lowering.specs.Parts.{each_next, where_found}
+use Rattle.lowering.specs.Parts.{each_next}
 unfoldable pub use Rattle.lowering.specs.Leaves.{no_variable, variable_of, name_kind, temp_kind, hashed, with_path, payload, rule, if_name, if_hash}
-unfoldable pub use Rattle.lowering.specs.Leaves.{if_math, if_query, load_context, load_temp, load_var, load, string_literal, resource, generic}
-unfoldable pub use Rattle.lowering.specs.Leaves.{member_put, array_put, longer, is_member, is_return, is_link, path_end, path_hashes, store_as, root_temp, root_var}
-unfoldable pub use Rattle.lowering.specs.Leaves.{store_member, store_temp, store_var, store, refused_target, target_refusal, compare_const, equal_const, constant_form}
-unfoldable pub use Rattle.lowering.specs.Leaves.{variable_temp, variable}
+unfoldable pub use Rattle.lowering.specs.Leaves.{if_math, if_query, variable, with_variable, read_flagged, load_context, load, string_literal, resource, generic}
+unfoldable pub use Rattle.lowering.specs.Leaves.{member_put, array_put, longer, is_member, is_return, is_link, path_end, path_hashes, store_as, store_under}
+unfoldable pub use Rattle.lowering.specs.Leaves.{store_member, store_to, store, refused_target, target_refusal, compare_const, equal_const, constant_form}
 
 -- ---- rules with operands: E lowers the node at a place with one level fewer, C does as the base of a member path, R a Return of a statement list
 
@@ -175,12 +174,13 @@ module _ (t : List ℕ) (E : ℕ → Bool → Step) (C : ℕ → NameRef → Boo
       let x = E (next_at t b) true (still loop_entered (f.0.state, f.1)) in
       constant (fold (post_bits t p) 0) (still loop_left (each_closed e.0.index f.0.index x))
 
+  -- 01, question 7: "a ForEach variable Entity or Temp under any operator"
   unfoldable pub for_each : ℕ → Bool → Step
-  for_each p l h =
-      let g = still (λ s. not_float_only (flagged Flag.HAS_LOOPS s)) h in
-      let v = variable t (first_at t p) g in
-      cond (ltb (count_at t p) 3) (failed Refusal.Failed g)
-      (where_found v.0.index (λ i. each p (each_next i) l) (v.0.state, v.1))
+  for_each p l = do
+    still (flagged Flag.HAS_LOOPS)
+    still not_float_only
+    either (ltb (count_at t p) 3) (failed Refusal.Failed) do
+      with_variable t (first_at t p) (failed Refusal.Failed) λ i. each p (each_next i) l
 
   -- the second child, or the node's constant
   unfoldable pub value : ℕ → ℕ → Bool → Step

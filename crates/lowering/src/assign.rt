@@ -8,7 +8,7 @@ ghost use Rattle.lowering.specs.Parts.{path_added, store_added};
 ghost use Rattle.lowering.specs.Rules as R;
 
 use crate::interning::VariableIdx;
-use crate::parts::instr;
+use crate::parts::{instr, put_variable};
 use crate::steps::{flag, not_float_only};
 use crate::{Builder, interning, regions};
 use answers::refusals::Refusal;
@@ -96,8 +96,7 @@ fn root_index(root: Option<VariableIdx>) -> u16
     ensures { result ≡ root_index root }
 {
     match root {
-        Some(VariableIdx::Name(n)) => n.0,
-        Some(VariableIdx::Temp(n)) => n.0,
+        Some(index) => index.index(),
         None => 0,
     }
 }
@@ -135,9 +134,9 @@ fn store_as(
 }
 
 // The same under the root of the path: a variable, a temp, or any other value.
-#[tactic(auto, using(crate::proofs::Variables::under_root))]
+#[tactic(auto, unfolding(crate::specs::Leaves::store_under))]
 fn store_under(b: &mut Builder<'_>, node: Node<'_>, e: PathEnd, levels: u16, q: PostIdx)
-    ensures { Did b.old b.new (R.root_var (bytes node.entry) e.root levels node.entry.at e.count q.0) }
+    ensures { Did b.old b.new (R.store_under (bytes node.entry) e.root levels node.entry.at e.count q.0) }
 {
     let end = Node {
         image: node.image,
@@ -163,17 +162,12 @@ fn store_member(b: &mut Builder<'_>, node: Node<'_>, levels: u16, q: PostIdx)
 }
 
 // A store to the target, of so many levels, with a post.
-#[tactic(auto, using(crate::proofs::Variables::to_path))]
+#[tactic(auto, unfolding(crate::specs::Leaves::store_to))]
 pub(crate) fn store(b: &mut Builder<'_>, node: Node<'_>, levels: u16, q: PostIdx)
-    ensures { Did b.old b.new (R.store_var (bytes node.entry) levels node.entry.at q.0) }
+    ensures { Did b.old b.new (R.store_to (bytes node.entry) levels node.entry.at q.0) }
 {
     match interning::variable(b, node) {
-        Some(VariableIdx::Name(index)) => {
-            instr(b, Opcode::StoreVar, 0, u32::from(index.0), q);
-        }
-        Some(VariableIdx::Temp(index)) => {
-            instr(b, Opcode::StoreTemp, 0, u32::from(index.0), q);
-        }
+        Some(index) => put_variable(b, index, Opcode::StoreVar, Opcode::StoreTemp, q),
         None => store_member(b, node, levels, q),
     }
 }

@@ -6,8 +6,9 @@ ghost use Rattle.tree.specs.Nodes.{bytes};
 ghost use Rattle.builder.specs.Done.{Did};
 ghost use Rattle.lowering.specs.Done.{Gave};
 ghost use Rattle.lowering.specs.Pools as B;
-ghost use Rattle.lowering.specs.Parts.{front, instr, post_bits, put_post, post_instr, emit_jump, place_target};
+ghost use Rattle.lowering.specs.Parts.{front, instr, put_variable, post_bits, put_post, post_instr, emit_jump, place_target};
 
+use crate::interning::VariableIdx;
 use crate::{Builder, interning};
 use numeric::{PostBits, PostOp};
 use program::PostIdx;
@@ -27,6 +28,20 @@ pub(crate) fn instr(b: &mut Builder<'_>, op: Opcode, sub: u8, a: u32, post: Post
     ensures { Did b.old b.new (instr (number_of op) sub a post.0) }
 {
     b.put(front(op, sub, post.0), a);
+}
+
+// An instruction of a variable or of a temp, by its index.
+#[tactic(auto, unfolding(crate::specs::Parts::put_variable))]
+pub(crate) fn put_variable(
+    b: &mut Builder<'_>,
+    i: VariableIdx,
+    variable: Opcode,
+    temp: Opcode,
+    q: PostIdx,
+)
+    ensures { Did b.old b.new (put_variable (number_of variable) (number_of temp) i q.0) }
+{
+    instr(b, i.opcode(variable, temp), 0, u32::from(i.index()), q);
 }
 
 // The patterns of the node's post. No `From`: both types are of other crates.

@@ -10,10 +10,11 @@ ghost use Rattle.builder.specs.Done.{Did};
 ghost use Rattle.lowering.specs.Pools.{constant};
 ghost use Rattle.lowering.specs.Payloads.{float_of, const_of, string_of, resource_of};
 ghost use Rattle.lowering.specs.Parts.{post_bits};
-ghost use Rattle.lowering.specs.Leaves.{hashed};
+ghost use Rattle.lowering.specs.Leaves.{hashed, read_flagged};
 ghost use Rattle.lowering.specs.Rules as R;
 
-use crate::parts::{bits_of, instr, post, put_post};
+use crate::interning::VariableIdx;
+use crate::parts::{bits_of, instr, post, put_post, put_variable};
 use crate::steps::{flag, not_float_only};
 use crate::{Builder, interning};
 use answers::refusals::Refusal;
@@ -140,29 +141,13 @@ fn load_context(b: &mut Builder<'_>, node: Node<'_>, q: PostIdx)
     instr(b, Opcode::LoadCtx, 0, u32::from(index.0), q);
 }
 
-#[tactic(auto, unfolding(crate::specs::Leaves::load_temp, crate::specs::Payloads::as_name, crate::specs::Payloads::cases))]
-fn load_temp(b: &mut Builder<'_>, node: Node<'_>, q: PostIdx)
-    ensures { Did b.old b.new (R.load_temp (bytes node.entry) node.entry.at q.0) }
+// A variable that is read is an actor's.
+fn flag_read(b: &mut Builder<'_>, index: VariableIdx)
+    ensures { Did b.old b.new (read_flagged index) }
 {
-    let p = payload_of(node);
-    let Payload::Temp(n) = p else {
-        return load_context(b, node, q);
-    };
-    let index = interning::temp(b, n);
-    instr(b, Opcode::LoadTemp, 0, u32::from(index.0), q);
-}
-
-#[tactic(auto, unfolding(crate::specs::Leaves::load_var, crate::specs::Payloads::as_name, crate::specs::Payloads::cases))]
-fn load_var(b: &mut Builder<'_>, node: Node<'_>, q: PostIdx)
-    ensures { Did b.old b.new (R.load_var (bytes node.entry) node.entry.at q.0) }
-{
-    let p = payload_of(node);
-    let Payload::Entity(n) = p else {
-        return load_temp(b, node, q);
-    };
-    flag(b, Flags::READS_ACTOR_VARS);
-    let index = interning::name(b, n);
-    instr(b, Opcode::LoadVar, 0, u32::from(index.0), q);
+    if let VariableIdx::Name(_) = index {
+        flag(b, Flags::READS_ACTOR_VARS);
+    }
 }
 
 // A variable, whatever the operator: the payload tells its kind.
@@ -171,7 +156,11 @@ pub(crate) fn load(b: &mut Builder<'_>, node: Node<'_>)
     ensures { Did b.old b.new (R.load (bytes node.entry) node.entry.at) }
 {
     let q = post(b, node);
-    load_var(b, node, q);
+    let Some(index) = interning::variable(b, node) else {
+        return load_context(b, node, q);
+    };
+    flag_read(b, index);
+    put_variable(b, index, Opcode::LoadVar, Opcode::LoadTemp, q);
 }
 
 // ---- behind an operand

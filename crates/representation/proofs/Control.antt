@@ -14,13 +14,12 @@ use Rattle.semantics.specs.Run.{handler+, same, opens}
 use Rattle.ast.specs.Rules.{rule_at}
 use Rattle.semantics.specs.State as S
 use Rattle.semantics.specs.Payloads as P
-use Rattle.semantics.specs.Pieces.{Lowering, failing, flagged, with_name, with_temp, constant, post_instruction, fork, counted_loop, eached, ◌⨾◌}
+use Rattle.semantics.specs.Pieces.{Lowering, failing, flagged, constant, post_instruction, fork, counted_loop, eached, ◌⨾◌}
 use Rattle.semantics.specs.Lowering as D
 use Rattle.semantics.specs.Lowering.{Lowerings}
 use Rattle.payload.specs.declared.NameRef.{NameRef}
 use Rattle.lowering.specs.Pools as B
-use Rattle.lowering.specs.Held.{Held}
-use Rattle.lowering.specs.Leaves.{VariableEntry}
+use Rattle.builder.specs.Steps as W
 use Rattle.lowering.specs.Parts as L
 use Rattle.lowering.specs.Parts.{Step}
 use Rattle.lowering.specs.Steps as Y
@@ -34,10 +33,10 @@ use Rattle.representation.proofs.Forks.{fork_does}
 use Rattle.representation.proofs.Loops.{loop_does}
 use Rattle.representation.proofs.Each.{each_does}
 use Rattle.representation.proofs.Arguments.{Child, Children}
-use Rattle.representation.proofs.Sound.{Sound, node_sound, name_related, const_same}
+use Rattle.representation.proofs.Sound.{Sound, node_sound, const_same}
 use Rattle.representation.proofs.TargetRules.{target_same}
 use Rattle.representation.proofs.Stores.{store_does}
-use Rattle.representation.proofs.Kin.{one_rel, some_rel, pair_rel, two_rel, three_rel, one_left, two_left, nothing_move, constant_does, put_post_lem, post_behind, sets_move, not_sets_move}
+use Rattle.representation.proofs.Kin.{one_rel, some_rel, pair_rel, two_rel, three_rel, one_left, two_left, nothing_move, constant_does, put_post_lem, post_behind, found_lem, sets_move, not_sets_move}
 
 -- the first of some children, which is there
 variable_is : (tree : List ℕ) (q n m : ℕ) → 1 ≤ m → Sound n tree q → (f : N.EachNext → Lowering) → D.variable (trees (tree_at n tree) tree m q) f ≡ D.each_of (payload_at tree q) f
@@ -58,10 +57,6 @@ module _ (tree : List ℕ) (E : ℕ → Bool → Step) (C : ℕ → NameRef → 
   statements_from_lem o [] zero q l k = constant_does o
   statements_from_lem o {c} (a ∷ xs) (suc m) q l k = thens (k.0.statement_is l c) (statements_from_lem o xs m (next_at tree q) l k.1)
   statements_from_lem o xs m q l k = absurd k
-
-  -- what the code makes of a variable v that it found
-  abbrev looping : ℕ → Bool → VariableEntry × List ℕ → Held
-  looping p l v = L.where_found v.0.index (λ i. R.each tree E C Z p (L.each_next i) l) (v.0.state, v.1)
 
   module _ (p : ℕ) (xs : List Lowerings) (k : Children tree E C Z xs (count_at tree p) (first_at tree p)) {c : Counts} (l : Bool) where
     pub coalesce_does : Does tree (P.two xs (failing 7) λ a b. fork N.handler_push N.handler_pop handler+ (a.expr l) (b.expr l) ⨾ post_instruction (L.post_bits tree p)) c (R.coalesce tree E C Z p l)
@@ -95,16 +90,14 @@ module _ (tree : List ℕ) (E : ℕ → Bool → Step) (C : ℕ → NameRef → 
     each_body i op v leads cb ce = thens (cb.expr_is l c) (thens (each_does i leads (ce.expr_is true (opens false c))) (constant_does (fold (L.post_bits tree p) 0)))
 
     variable_does : (n : ℕ) → Sound n tree (first_at tree p) → length tree ≤ 6144 → {b e : Lowerings} → Child tree E C Z b (next_at tree (first_at tree p)) → Child tree E C Z e (next_at tree (next_at tree (first_at tree p)))
-        → Does tree (D.each_of (payload_at tree (first_at tree p)) λ i. b.expr l ⨾ eached i (e.expr true) ⨾ constant (fold (L.post_bits tree p) 0)) c (λ h. looping p l (R.variable tree (first_at tree p) h))
-    unfolding D.each_of R.variable R.variable_temp L.each_next word_of
-    variable_does n sound short {b} {e} cb ce =
-        let q = first_at tree p in
-        let f : N.EachNext → Lowering = λ i. b.expr l ⨾ eached i (e.expr true) ⨾ constant (fold (L.post_bits tree p) 0) in
-        name_related tree (λ (d : Lowering) (G : Held → VariableEntry × List ℕ). Does tree d c (λ h. looping p l (G h))) 4 q (node_sound n tree q sound) short (λ n. with_name n λ k. f (N.each_next_var k))
-        (name_related tree (λ (d : Lowering) (G : Held → VariableEntry × List ℕ). Does tree d c (λ h. looping p l (G h))) 5 q (node_sound n tree q sound) short (λ n. with_temp n λ k. f (N.each_next_temp k))
+        → Does tree (D.each_of (payload_at tree (first_at tree p)) λ i. b.expr l ⨾ eached i (e.expr true) ⨾ constant (fold (L.post_bits tree p) 0)) c
+        (R.with_variable tree (first_at tree p) (W.failed Failed) λ i. R.each tree E C Z p (L.each_next i) l)
+    unfolding D.each_of L.each_next word_of
+    variable_does n sound short cb ce =
+        found_lem (first_at tree p) (node_sound n tree (first_at tree p) sound) short (W.failed Failed) (λ i. R.each tree E C Z p (L.each_next i) l) _ _
         (failing_does Failed)
-        (λ r t. temp_does r t (λ v. each_body (N.each_next_temp v) 45 v (leads (N.each_next (N.each_next_temp v)) 45 0 v (λ t. refl)) cb ce)))
         (λ r t. name_does r t (λ v. each_body (N.each_next_var v) 44 v (leads (N.each_next (N.each_next_var v)) 44 0 v (λ t. refl)) cb ce))
+        (λ r t. temp_does r t (λ v. each_body (N.each_next_temp v) 45 v (leads (N.each_next (N.each_next_temp v)) 45 0 v (λ t. refl)) cb ce))
 
     -- n are the children's levels
     pub each_rule : (n : ℕ) → (1 ≤ count_at tree p → Sound n tree (first_at tree p)) → length tree ≤ 6144
@@ -112,7 +105,7 @@ module _ (tree : List ℕ) (E : ℕ → Bool → Step) (C : ℕ → NameRef → 
     unfolding R.for_each
     each_rule n sound short = flagged_does (λ f. S.not_float_only (S.sets HAS_LOOPS f)) (λ s. Y.not_float_only (Y.flagged 64 s)) (not_sets_move 64)
         (three_rel tree E C Z c _ (failing_does Failed) _ xs (count_at tree p) (first_at tree p) k
-        (λ a b e m ca cb ce. subst (λ (f : Lowering). Does tree f c (λ h. looping p l (R.variable tree (first_at tree p) h))) (sym (first_variable n (count_at tree p) (omega arith) (sound (omega arith)) (λ i. b.expr l ⨾ eached i (e.expr true) ⨾ constant (fold (L.post_bits tree p) 0)))) (variable_does n (sound (omega arith)) short cb ce)))
+        (λ a b e m ca cb ce. subst (λ (f : Lowering). Does tree f c (R.with_variable tree (first_at tree p) (W.failed Failed) λ i. R.each tree E C Z p (L.each_next i) l)) (sym (first_variable n (count_at tree p) (omega arith) (sound (omega arith)) (λ i. b.expr l ⨾ eached i (e.expr true) ⨾ constant (fold (L.post_bits tree p) 0)))) (variable_does n (sound (omega arith)) short cb ce)))
       where
         first_variable : (n m : ℕ) → 1 ≤ m → Sound n tree (first_at tree p) → (f : N.EachNext → Lowering) → D.variable (trees (tree_at n tree) tree m (first_at tree p)) f ≡ D.each_of (payload_at tree (first_at tree p)) f
         first_variable n m h s f = variable_is tree (first_at tree p) n m h s f

@@ -1,25 +1,34 @@
 -- Rules by how many children they read; steps that many rules share. Assumes nothing.
-use Rattle.std.proofs.Common.{◌≡◌, refl, sym, ◌∙◌, Bool, true, false, cond, List, [], ◌∷◌, ℕ, zero, suc, ◌≤◌, arith, eqb, ltb, eq-eqb, ne_eqb, lt-ltb, le-ltb}
+use Rattle.std.proofs.Common.{◌≡◌, refl, sym, ◌∙◌, Bool, true, false, cond, List, [], ◌∷◌, ℕ, zero, suc, ◌≤◌, arith, length, eqb, ltb, eq-eqb, ne_eqb, lt-ltb, le-ltb}
 use Rattle.numeric.specs.Post.{is_identity}
-use Rattle.ast.specs.Node.{next_at}
+use Rattle.ast.specs.Tree as T
+use Rattle.ast.specs.Node.{payload_at, next_at}
 use Rattle.program.specs.Instruction.{Instruction, plain, post}
 use Rattle.program.specs.Program.{Counts}
 use Rattle.program.specs.Image.{word_of, word}
 use Rattle.semantics.specs.Run.{operand+}
 use Rattle.semantics.specs.State.{Flags, State, sets, set_flags}
 use Rattle.semantics.specs.State as S
+use Rattle.semantics.specs.Payloads as P
 use Rattle.semantics.specs.Payloads.{one, two, three, some, just}
 use Rattle.semantics.specs.Pieces.{Lowering, put, nothing, with_post, constant, post_instruction}
 use Rattle.semantics.specs.Lowering.{Lowerings}
 use Rattle.payload.specs.declared.NameRef.{NameRef}
+use Rattle.payload.specs.Payloads.{named}
+use Rattle.lowering.specs.declared.interning.VariableIdx.{VariableIdx}
+use Rattle.lowering.specs.Held.{Held}
+use Rattle.lowering.specs.Leaves.{VariableEntry}
 use Rattle.lowering.specs.Pools as B
 use Rattle.builder.specs.Steps as W
 use Rattle.lowering.specs.Parts as L
 use Rattle.lowering.specs.Parts.{Step}
 use Rattle.builder.specs.Steps.{still}
 use Rattle.lowering.specs.Steps as Y
+use Rattle.lowering.specs.Rules as R
 use Rattle.representation.proofs.Represents.{Moves, Does, on_state}
+use Rattle.representation.proofs.Entries.{TextOf}
 use Rattle.representation.proofs.Interning as I
+use Rattle.representation.proofs.Sound.{NodeSound, name_related}
 use Rattle.representation.proofs.Laws.{flags_move, popped_move}
 use Rattle.representation.proofs.OpenCode.{nothing_does}
 use Rattle.representation.proofs.Branches as C
@@ -97,6 +106,25 @@ module _ {tree : List ℕ} {c : Counts} where
       go : (b : Bool) → Does tree (cond b nothing (with_post (L.post_bits tree p) λ q. put (plain (post q)))) c (λ h. cond b (W.flushed h) (L.put_post tree p 34 0 0 h))
       go true = nothing_does
       go false = put_post_lem p (λ q. plain (post q)) 34 0 0 (λ q. refl)
+
+  -- what is made of the variable or the temp that a node names, or of there being neither
+  pub variable_lem : (p : ℕ) → NodeSound tree p → length tree ≤ 6144 → (made : VariableEntry × List ℕ → Held) (e t : T.Name → Lowering) {d : Lowering}
+      → Does tree d c (λ h. made (R.no_variable h))
+      → ((r : NameRef) → TextOf tree r → Does tree (e (named tree r)) c (λ h. made (R.variable_of R.name_kind (B.name r h))))
+      → ((r : NameRef) → TextOf tree r → Does tree (t (named tree r)) c (λ h. made (R.variable_of R.temp_kind (B.temp r h))))
+      → Does tree (P.as_name 4 (payload_at tree p) (P.as_name 5 (payload_at tree p) d t) e) c (λ h. made (R.variable tree p h))
+  unfolding R.variable
+  variable_lem p sound short made e t o v w =
+      let Gives : Lowering → (Held → VariableEntry × List ℕ) → Type 0 = λ x F. Does tree x c (λ h. made (F h)) in
+      name_related tree Gives 4 p sound short e (name_related tree Gives 5 p sound short t o w) v
+
+  -- the same where a step goes on with its index, or another with none
+  pub found_lem : (p : ℕ) → NodeSound tree p → length tree ≤ 6144 → (other : Step) (f : VariableIdx → Step) (e t : T.Name → Lowering) {d : Lowering}
+      → Does tree d c other
+      → ((r : NameRef) → TextOf tree r → Does tree (e (named tree r)) c (L.with_name r (λ k. f (R.name_kind k))))
+      → ((r : NameRef) → TextOf tree r → Does tree (t (named tree r)) c (L.with_temp r (λ k. f (R.temp_kind k))))
+      → Does tree (P.as_name 4 (payload_at tree p) (P.as_name 5 (payload_at tree p) d t) e) c (R.with_variable tree p other f)
+  found_lem p sound short other f e t o v w = variable_lem p sound short (λ x. L.where_found x.0.index other f (x.0.state, x.1)) e t o v w
 
   -- ---- flags
 

@@ -1,5 +1,5 @@
 -- Nodes of a tree image that no question refuses: the texts of their names lie in it, and what the rules read in their payloads is what the definition reads. Assumes nothing.
-use Rattle.std.proofs.Common.{rules, ◌≡◌, refl, sym, ap, subst, ◌∙◌, Bool, true, false, cond, ◌&&◌, List, ℕ, zero, suc, ◌+◌, ◌≤◌, arith, length, get_or, leb, eqb, leb-true, eq-eqb, ne_eqb}
+use Rattle.std.proofs.Common.{Option, None, Some, rules, ◌≡◌, refl, sym, ap, subst, ◌∙◌, Bool, true, false, cond, ◌&&◌, List, ℕ, zero, suc, ◌+◌, ◌≤◌, arith, length, get_or, leb, eqb, leb-true, eq-eqb, ne_eqb}
 use mathlib.Core.Bool.{false≢true}
 use native.Mathlib.Decide.{ℕ_discrete}
 use Rattle.wire.specs.Bytes.{be8}
@@ -12,7 +12,7 @@ use Rattle.ast.proofs.PayloadKinds.{name_kind_lem}
 use Rattle.program.specs.Program.{Counts}
 use Rattle.payload.specs.declared.NameRef.{NameRef}
 use Rattle.payload.specs.declared.Payload.{Payload}
-use Rattle.payload.specs.declared.Payload.TheVariants.{None, Hash, Context, Entity, Temp, Member, ArrayVariable, Geometry, Material, Texture, Query, HostMath}
+use Rattle.payload.specs.declared.Payload.TheVariants as V
 use Rattle.payload.specs.Payloads.{name_ref_at, payload_refs, payload_ref_at, named, meant}
 use Rattle.payload.proofs.Meant.{payload_meant}
 use Rattle.semantics.specs.Payloads as P
@@ -108,33 +108,24 @@ not_larger tree h = search rules
 
 -- ---- the texts of a payload
 
--- W holds of the payload if it is a name
-abbrev pub Names : (NameRef → Type 0) → Payload → Type 0
-Names W (Context r) = W r
-Names W (Entity r) = W r
-Names W (Temp r) = W r
-Names W (Member r) = W r
-Names W (ArrayVariable r) = W r
-Names W (Geometry r) = W r
-Names W (Material r) = W r
-Names W (Texture r) = W r
-Names W v = Unit {0}
+-- the payload's name, if it is one
+abbrev pub name_of : Payload → Option NameRef
+name_of v = Q.cases v None (λ x. None) (λ x. None) (λ x. None) (λ j r. Some r) (λ i m. None)
 
-all_names : (W : NameRef → Type 0) → ((r : NameRef) → W r) → (v : Payload) → Names W v
-all_names W h (Context r) = h r
-all_names W h (Entity r) = h r
-all_names W h (Temp r) = h r
-all_names W h (Member r) = h r
-all_names W h (ArrayVariable r) = h r
-all_names W h (Geometry r) = h r
-all_names W h (Material r) = h r
-all_names W h (Texture r) = h r
-all_names W h v = tt
+-- W holds of the name, if there is one
+abbrev pub OfName : (NameRef → Type 0) → Option NameRef → Type 0
+OfName W None = Unit {0}
+OfName W (Some r) = W r
+
+of_all : (o : Option NameRef) → OfName (λ r. Unit {0}) o
+of_all None = tt
+of_all (Some r) = tt
 
 abbrev pub Texts : List ℕ → Payload → Type 0
-Texts tree v = Names (TextOf tree) v
+Texts tree v = OfName (TextOf tree) (name_of v)
 
-texts_of : (tree : List ℕ) (p k : ℕ) → (3 ≤ k → k ≤ 10 → TextOf tree (name_ref_at tree p)) → Texts tree (get_or (payload_refs tree p) k None)
+texts_of : (tree : List ℕ) (p k : ℕ) → (3 ≤ k → k ≤ 10 → TextOf tree (name_ref_at tree p)) → Texts tree (get_or (payload_refs tree p) k V.None)
+unfolding Q.cases
 texts_of tree p zero h = tt
 texts_of tree p (suc zero) h = tt
 texts_of tree p (suc (suc zero)) h = tt
@@ -156,70 +147,71 @@ module _ {X Y Z : Type 0} (R : X → (Z → Y) → Type 0) where
   picked j k (no p) true q h i = absurd (false≢true (sym (ne_eqb j k p) ∙ q))
   picked j k (no p) false q h i = i
 
+-- by the variant, where W holds of a name
+module _ (tree : List ℕ) {X Y Z : Type 0} (R : X → (Z → Y) → Type 0) (W : NameRef → Type 0) (s : ℕ → T.Name → X) {n : X} {f h m : ℕ → X} {q : ℕ → ℕ → X}
+    {N : Z → Y} {F H M : ℕ → Z → Y} {S : ℕ → NameRef → Z → Y} {G : ℕ → ℕ → Z → Y}
+    (none : R n N) (float : (x : ℕ) → R (f x) (F x)) (hash : (x : ℕ) → R (h x) (H x)) (math : (x : ℕ) → R (m x) (M x))
+    (name : (j : ℕ) (r : NameRef) → W r → R (s j (named tree r)) (S j r)) (query : (x y : ℕ) → R (q x y) (G x y)) where
+  by_variant : (v : Payload) → OfName W (name_of v) → R (P.cases (meant tree v) n f h m s q) (λ z. Q.cases v (N z) (λ x. F x z) (λ x. H x z) (λ x. M x z) (λ j r. S j r z) (λ x y. G x y z))
+  unfolding P.cases Q.cases
+  by_variant V.None w = none
+  by_variant (V.Float x) w = float x
+  by_variant (V.Hash x) w = hash x
+  by_variant (V.Context r) w = name 3 r w
+  by_variant (V.Entity r) w = name 4 r w
+  by_variant (V.Temp r) w = name 5 r w
+  by_variant (V.Member r) w = name 6 r w
+  by_variant (V.ArrayVariable r) w = name 7 r w
+  by_variant (V.Geometry r) w = name 8 r w
+  by_variant (V.Material r) w = name 9 r w
+  by_variant (V.Texture r) w = name 10 r w
+  by_variant (V.Query x) w = query x.index x.impl_idx
+  by_variant (V.HostMath x) w = math x
+
+  by_payload : (p : ℕ) → OfName W (name_of (payload_ref_at tree p))
+      → R (P.cases (payload_at tree p) n f h m s q) (λ z. Q.cases (payload_ref_at tree p) (N z) (λ x. F x z) (λ x. H x z) (λ x. M x z) (λ j r. S j r z) (λ x y. G x y z))
+  by_payload p w =
+      subst (λ (v : T.Payload). R (P.cases v n f h m s q) (λ z. Q.cases (payload_ref_at tree p) (N z) (λ x. F x z) (λ x. H x z) (λ x. M x z) (λ j r. S j r z) (λ x y. G x y z))) (payload_meant tree p)
+      (by_variant (payload_ref_at tree p) w)
+
 module _ (tree : List ℕ) {X Y Z : Type 0} (R : X → (Z → Y) → Type 0) where
-  name_case : (W : NameRef → Type 0) (k : ℕ) (v : Payload) → Names W v → (f : T.Name → X) {d : X} {D : Z → Y} {F : NameRef → Z → Y} → R d D → ((r : NameRef) → W r → R (f (named tree r)) (F r)) → R (P.as_name k (meant tree v) d f) (λ z. Q.as_name k v (D z) (λ r. F r z))
-  unfolding P.as_name P.cases Q.as_name Q.cases
-  name_case W k (Context r) t f i h = picked R 3 k (ℕ_discrete 3 k) (eqb 3 k) refl (h r t) i
-  name_case W k (Entity r) t f i h = picked R 4 k (ℕ_discrete 4 k) (eqb 4 k) refl (h r t) i
-  name_case W k (Temp r) t f i h = picked R 5 k (ℕ_discrete 5 k) (eqb 5 k) refl (h r t) i
-  name_case W k (Member r) t f i h = picked R 6 k (ℕ_discrete 6 k) (eqb 6 k) refl (h r t) i
-  name_case W k (ArrayVariable r) t f i h = picked R 7 k (ℕ_discrete 7 k) (eqb 7 k) refl (h r t) i
-  name_case W k (Geometry r) t f i h = picked R 8 k (ℕ_discrete 8 k) (eqb 8 k) refl (h r t) i
-  name_case W k (Material r) t f i h = picked R 9 k (ℕ_discrete 9 k) (eqb 9 k) refl (h r t) i
-  name_case W k (Texture r) t f i h = picked R 10 k (ℕ_discrete 10 k) (eqb 10 k) refl (h r t) i
-  name_case W k v t f i h = i
-
-  hash_case : (v : Payload) → {d : X} {D : Z → Y} {f : ℕ → X} {F : ℕ → Z → Y} → R d D → ((x : ℕ) → R (f x) (F x)) → R (P.as_hash (meant tree v) d f) (λ z. Q.as_hash v (D z) (λ x. F x z))
-  unfolding P.as_hash P.cases Q.as_hash Q.cases
-  hash_case (Hash b) i h = h b
-  hash_case v i h = i
-
-  math_case : (v : Payload) → {d : X} {D : Z → Y} {f : ℕ → X} {F : ℕ → Z → Y} → R d D → ((x : ℕ) → R (f x) (F x)) → R (P.as_math (meant tree v) d f) (λ z. Q.as_math v (D z) (λ x. F x z))
-  unfolding P.as_math P.cases Q.as_math Q.cases
-  math_case (HostMath b) i h = h b
-  math_case v i h = i
-
-  query_case : (v : Payload) → {d : X} {D : Z → Y} {f : ℕ → ℕ → X} {F : ℕ → ℕ → Z → Y} → R d D → ((x y : ℕ) → R (f x y) (F x y)) → R (P.as_query (meant tree v) d f) (λ z. Q.as_query v (D z) (λ x y. F x y z))
-  unfolding P.as_query P.cases Q.as_query Q.cases
-  query_case (Query q) i h = h q.index q.impl_idx
-  query_case v i h = i
+  name_where : (W : NameRef → Type 0) (k p : ℕ) → OfName W (name_of (payload_ref_at tree p)) → (f : T.Name → X) {d : X} {D : Z → Y} {F : NameRef → Z → Y} → R d D → ((r : NameRef) → W r → R (f (named tree r)) (F r)) → R (P.as_name k (payload_at tree p) d f) (λ z. Q.as_name k (payload_ref_at tree p) (D z) (λ r. F r z))
+  unfolding P.as_name Q.as_name
+  name_where W k p w f i h = by_payload tree R W _ i (λ x. i) (λ x. i) (λ x. i) (λ j r t. picked R j k (ℕ_discrete j k) (eqb j k) refl (h r t) i) (λ x y. i) p w
 
   pub name_related : (k p : ℕ) → NodeSound tree p → length tree ≤ 6144 → (f : T.Name → X) {d : X} {D : Z → Y} {F : NameRef → Z → Y} → R d D → ((r : NameRef) → TextOf tree r → R (f (named tree r)) (F r)) → R (P.as_name k (payload_at tree p) d f) (λ z. Q.as_name k (payload_ref_at tree p) (D z) (λ r. F r z))
-  name_related k p s l f {d} {D} {F} i h = subst (λ (v : T.Payload). R (P.as_name k v d f) (λ z. Q.as_name k (payload_ref_at tree p) (D z) (λ r. F r z))) (payload_meant tree p) (name_case (TextOf tree) k (payload_ref_at tree p) (texts tree p s l) f i h)
+  name_related k p s l f i h = name_where (TextOf tree) k p (texts tree p s l) f i h
 
   -- the same where the name's text is not looked at
   pub name_always : (k p : ℕ) (f : T.Name → X) {d : X} {D : Z → Y} {F : NameRef → Z → Y} → R d D → ((r : NameRef) → R (f (named tree r)) (F r)) → R (P.as_name k (payload_at tree p) d f) (λ z. Q.as_name k (payload_ref_at tree p) (D z) (λ r. F r z))
-  name_always k p f {d} {D} {F} i h = subst (λ (v : T.Payload). R (P.as_name k v d f) (λ z. Q.as_name k (payload_ref_at tree p) (D z) (λ r. F r z))) (payload_meant tree p) (name_case (λ r. Unit {0}) k (payload_ref_at tree p) (all_names (λ r. Unit {0}) (λ r. tt) (payload_ref_at tree p)) f i (λ r t. h r))
-
-  pub hash_related : (p : ℕ) {d : X} {D : Z → Y} {f : ℕ → X} {F : ℕ → Z → Y} → R d D → ((x : ℕ) → R (f x) (F x)) → R (P.as_hash (payload_at tree p) d f) (λ z. Q.as_hash (payload_ref_at tree p) (D z) (λ x. F x z))
-  hash_related p {d} {D} {f} {F} i h = subst (λ (v : T.Payload). R (P.as_hash v d f) (λ z. Q.as_hash (payload_ref_at tree p) (D z) (λ x. F x z))) (payload_meant tree p) (hash_case (payload_ref_at tree p) i h)
-
-  pub math_related : (p : ℕ) {d : X} {D : Z → Y} {f : ℕ → X} {F : ℕ → Z → Y} → R d D → ((x : ℕ) → R (f x) (F x)) → R (P.as_math (payload_at tree p) d f) (λ z. Q.as_math (payload_ref_at tree p) (D z) (λ x. F x z))
-  math_related p {d} {D} {f} {F} i h = subst (λ (v : T.Payload). R (P.as_math v d f) (λ z. Q.as_math (payload_ref_at tree p) (D z) (λ x. F x z))) (payload_meant tree p) (math_case (payload_ref_at tree p) i h)
-
-  pub query_related : (p : ℕ) {d : X} {D : Z → Y} {f : ℕ → ℕ → X} {F : ℕ → ℕ → Z → Y} → R d D → ((x y : ℕ) → R (f x y) (F x y)) → R (P.as_query (payload_at tree p) d f) (λ z. Q.as_query (payload_ref_at tree p) (D z) (λ x y. F x y z))
-  query_related p {d} {D} {f} {F} i h = subst (λ (v : T.Payload). R (P.as_query v d f) (λ z. Q.as_query (payload_ref_at tree p) (D z) (λ x y. F x y z))) (payload_meant tree p) (query_case (payload_ref_at tree p) i h)
+  name_always k p f i h = name_where (λ r. Unit {0}) k p (of_all (name_of (payload_ref_at tree p))) f i (λ r t. h r)
 
 -- ---- for lowerings
 
+abbrev Is : List ℕ → Counts → Lowering → Step → Type 0
+Is tree c x S = Does tree x c S
+
 module _ {tree : List ℕ} {c : Counts} where
   pub as_name_lem : (k p : ℕ) → NodeSound tree p → length tree ≤ 6144 → (f : T.Name → Lowering) {d : Lowering} {D : Step} {F : NameRef → Step} → Does tree d c D → ((r : NameRef) → TextOf tree r → Does tree (f (named tree r)) c (F r)) → Does tree (P.as_name k (payload_at tree p) d f) c (λ h. Q.as_name k (payload_ref_at tree p) (D h) (λ r. F r h))
-  as_name_lem k p s l f i h = name_related tree (λ (x : Lowering) (S : Step). Does tree x c S) k p s l f i h
+  as_name_lem k p s l f i h = name_related tree (Is tree c) k p s l f i h
 
   pub as_hash_lem : (p : ℕ) {d : Lowering} {D : Step} {f : ℕ → Lowering} {F : ℕ → Step} → Does tree d c D → ((x : ℕ) → Does tree (f x) c (F x)) → Does tree (P.as_hash (payload_at tree p) d f) c (λ h. Q.as_hash (payload_ref_at tree p) (D h) (λ x. F x h))
-  as_hash_lem p i h = hash_related tree (λ (x : Lowering) (S : Step). Does tree x c S) p i h
+  unfolding P.as_hash Q.as_hash
+  as_hash_lem p i h = by_payload tree (Is tree c) (λ r. Unit {0}) _ i (λ x. i) h (λ x. i) (λ j r t. i) (λ x y. i) p (of_all (name_of (payload_ref_at tree p)))
 
   pub as_math_lem : (p : ℕ) {d : Lowering} {D : Step} {f : ℕ → Lowering} {F : ℕ → Step} → Does tree d c D → ((x : ℕ) → Does tree (f x) c (F x)) → Does tree (P.as_math (payload_at tree p) d f) c (λ h. Q.as_math (payload_ref_at tree p) (D h) (λ x. F x h))
-  as_math_lem p i h = math_related tree (λ (x : Lowering) (S : Step). Does tree x c S) p i h
+  unfolding P.as_math Q.as_math
+  as_math_lem p i h = by_payload tree (Is tree c) (λ r. Unit {0}) _ i (λ x. i) (λ x. i) h (λ j r t. i) (λ x y. i) p (of_all (name_of (payload_ref_at tree p)))
 
   pub as_query_lem : (p : ℕ) {d : Lowering} {D : Step} {f : ℕ → ℕ → Lowering} {F : ℕ → ℕ → Step} → Does tree d c D → ((x y : ℕ) → Does tree (f x y) c (F x y)) → Does tree (P.as_query (payload_at tree p) d f) c (λ h. Q.as_query (payload_ref_at tree p) (D h) (λ x y. F x y h))
-  as_query_lem p i h = query_related tree (λ (x : Lowering) (S : Step). Does tree x c S) p i h
+  unfolding P.as_query Q.as_query
+  as_query_lem p i h = by_payload tree (Is tree c) (λ r. Unit {0}) _ i (λ x. i) (λ x. i) (λ x. i) (λ j r t. i) h p (of_all (name_of (payload_ref_at tree p)))
 
 -- ---- numbers
 
 float_case : (tree : List ℕ) (v : Payload) → P.float_of (meant tree v) ≡ Q.float_of v
 unfolding P.float_of Q.float_of P.cases Q.cases
-float_case tree None = refl
+float_case tree V.None = refl
 float_case tree v = refl
 
 pub float_same : (tree : List ℕ) (p : ℕ) → P.float_of (payload_at tree p) ≡ Q.float_of (payload_ref_at tree p)
@@ -227,7 +219,7 @@ float_same tree p = ap P.float_of (sym (payload_meant tree p)) ∙ float_case tr
 
 const_case : (tree : List ℕ) (v : Payload) → P.const_of (meant tree v) ≡ Q.const_of v
 unfolding P.const_of Q.const_of P.as_hash Q.as_hash P.float_of Q.float_of P.cases Q.cases
-const_case tree None = refl
+const_case tree V.None = refl
 const_case tree v = refl
 
 pub const_same : (tree : List ℕ) (p : ℕ) → P.const_of (payload_at tree p) ≡ Q.const_of (payload_ref_at tree p)
@@ -235,7 +227,7 @@ const_same tree p = ap P.const_of (sym (payload_meant tree p)) ∙ const_case tr
 
 string_case : (tree : List ℕ) (v : Payload) → P.string_of (meant tree v) ≡ Q.string_of v
 unfolding P.string_of Q.string_of P.as_hash Q.as_hash P.cases Q.cases
-string_case tree None = refl
+string_case tree V.None = refl
 string_case tree v = refl
 
 pub string_same : (tree : List ℕ) (p : ℕ) → P.string_of (payload_at tree p) ≡ Q.string_of (payload_ref_at tree p)
@@ -243,7 +235,7 @@ string_same tree p = ap P.string_of (sym (payload_meant tree p)) ∙ string_case
 
 resource_case : (tree : List ℕ) (v : Payload) → P.resource_of (meant tree v) ≡ Q.resource_of v
 unfolding P.resource_of Q.resource_of P.as_name Q.as_name ℕ_discrete P.cases Q.cases
-resource_case tree None = refl
+resource_case tree V.None = refl
 resource_case tree v = refl
 
 pub resource_same : (tree : List ℕ) (p : ℕ) → P.resource_of (payload_at tree p) ≡ Q.resource_of (payload_ref_at tree p)

@@ -16,14 +16,14 @@ use Rattle.program.specs.Program.{Counts, StoreRoot, root_var, root_temp, root_o
 use Rattle.program.specs.Image.{word_of}
 use Rattle.program.specs.Fits.{root_index}
 use Rattle.payload.specs.declared.Payload.{Payload}
-use Rattle.payload.specs.declared.Payload.TheVariants.{None as NoPayload, Float, Hash, Context, Entity, Temp, Member, ArrayVariable, Geometry, Material, Texture, Query, HostMath}
+use Rattle.payload.specs.declared.Payload.TheVariants.{Member}
 use Rattle.payload.specs.Payloads.{payload_ref_at, meant}
 use Rattle.payload.proofs.Meant.{payload_meant}
 use Rattle.semantics.specs.Payloads as P
 use Rattle.semantics.specs.State.{State, set_pools, set_stores}
 use Rattle.semantics.specs.State as S
 use Rattle.semantics.specs.Regions.{path_entries}
-use Rattle.semantics.specs.Pieces.{Lowering, put, failing, with_name, with_temp, with_store}
+use Rattle.semantics.specs.Pieces.{Lowering, put, failing, with_store}
 use Rattle.semantics.specs.Lowering as D
 use Rattle.semantics.proofs.Costs.{weigh}
 use Rattle.semantics.proofs.Sizes.{weigh_length}
@@ -35,9 +35,10 @@ use Rattle.lowering.specs.Held.{Held}
 use Rattle.workspace.specs.Words.{high, low}
 use Rattle.lowering.specs.Pools.{Found}
 use Rattle.lowering.specs.declared.assign.PathEnd.{PathEnd}
+use Rattle.lowering.specs.Kinds as K
 use Rattle.lowering.specs.Steps as L
 use Rattle.lowering.specs.Payloads as Q
-use Rattle.lowering.specs.Parts.{Step, either, instr, going, post_bits, path_added, store_added}
+use Rattle.lowering.specs.Parts.{Step, either, instr, put_variable, going, post_bits, path_added, store_added}
 use Rattle.builder.specs.Steps.{still}
 use Rattle.lowering.specs.Rules as R
 use Rattle.representation.proofs.Rows.{Apart, Agree, rows_snoc, sets_apart, sets_stored}
@@ -48,8 +49,9 @@ use Rattle.representation.proofs.Interning.{with_does, name_does, temp_does, pos
 use Rattle.representation.proofs.Laws.{flags_move, flagged_does}
 use Rattle.representation.proofs.OpenCode.{failing_does}
 use Rattle.representation.proofs.Branches.{instr_does}
-use Rattle.representation.proofs.Sound.{NodeSound, Sound, node_sound, first_sound, as_name_lem}
+use Rattle.representation.proofs.Sound.{NodeSound, Sound, node_sound, first_sound}
 use Rattle.representation.proofs.TargetRules.{member_same}
+use Rattle.representation.proofs.Kin.{variable_lem, found_lem}
 
 -- ---- paths
 
@@ -108,19 +110,8 @@ module _ (tree : List ℕ) (n : ℕ) (short : n ≤ LEVELS) where
   link_payload : (v : Payload) (m : P.Path) (o : Option PathEnd) (G : Step) → ((x : ℕ) → PathIs tree (suc n) (P.longer x m) o (λ h. path_added x (G h)))
       → PathIs tree (suc n) (P.as_name 6 (meant tree v) P.no_path (λ y. P.longer y.hash m)) (Q.as_name 6 v None (λ y. o)) (λ h. Q.as_name 6 v h (λ y. path_added y.hash (G h)))
   unfolding P.as_name P.cases Q.as_name Q.cases ℕ_discrete
-  link_payload NoPayload m o G i = refl
-  link_payload (Float b) m o G i = refl
-  link_payload (Hash b) m o G i = refl
-  link_payload (Context r) m o G i = refl
-  link_payload (Entity r) m o G i = refl
-  link_payload (Temp r) m o G i = refl
   link_payload (Member r) m o G i = i r.hash
-  link_payload (ArrayVariable r) m o G i = refl
-  link_payload (Geometry r) m o G i = refl
-  link_payload (Material r) m o G i = refl
-  link_payload (Texture r) m o G i = refl
-  link_payload (Query q) m o G i = refl
-  link_payload (HostMath b) m o G i = refl
+  link_payload v m o G i = refl
 
   -- by the node's rule
   link_rule : (p : ℕ) → NodeSound tree p → (m : P.Path) (o : Option PathEnd) (G : Step)
@@ -328,19 +319,18 @@ module _ (tree : List ℕ) (c : Counts) (n p : ℕ) (m : P.Path) (e : PathEnd) (
       (λ h. rw (a, b, sym (same.count_is), sym (same.adds h)))
       (store_with (record { root = r; path = m.hashes }) (λ i. instr_does (I.plain (I.store_member i q)) refl))
 
-  root_temp_lem : Does tree (P.as_name 5 (payload_at tree e.root) (rooted root_other) (λ x. with_temp x λ t. rooted (root_temp t))) c (R.root_temp tree e.root n p e.count q)
-  unfolding R.root_temp root_kind root_index
-  root_temp_lem = as_name_lem 5 e.root (same.root_sound) small (λ x. with_temp x λ t. rooted (root_temp t)) (store_as_lem root_other 2 0 refl refl) (λ r t. temp_does r t (λ i. store_as_lem (root_temp i) 1 i refl refl))
+  root_lem : Does tree (D.with_root m.root rooted) c (R.store_under tree e.root n p e.count q)
+  unfolding D.with_root R.store_under root_kind root_index
+  root_lem =
+      subst (λ (v : T.Payload). Does tree (D.with_root v rooted) c (R.store_under tree e.root n p e.count q)) (same.root_is)
+      (variable_lem e.root (same.root_sound) small (λ v. R.store_as tree (K.root_kind v.0.index) (K.root_index v.0.index) n p e.count q (v.0.state, v.1)) _ _
+      (store_as_lem root_other 2 0 refl refl)
+      (λ r t. name_does r t (λ i. store_as_lem (root_var i) 0 i refl refl))
+      (λ r t. temp_does r t (λ i. store_as_lem (root_temp i) 1 i refl refl)))
 
-  root_var_lem : Does tree (D.with_root m.root rooted) c (R.root_var tree e.root n p e.count q)
-  unfolding D.with_root R.root_var root_kind root_index
-  root_var_lem =
-      subst (λ (v : T.Payload). Does tree (D.with_root v rooted) c (R.root_var tree e.root n p e.count q)) (same.root_is)
-      (as_name_lem 4 e.root (same.root_sound) small (λ x. with_name x λ k. rooted (root_var k)) root_temp_lem (λ r t. name_does r t (λ i. store_as_lem (root_var i) 0 i refl refl)))
-
-  member_store_lem : Does tree (D.member_store m q) c (λ h. R.root_var tree e.root n p e.count q (still (λ s. L.flagged 16 (L.not_float_only s)) h))
+  member_store_lem : Does tree (D.member_store m q) c (λ h. R.store_under tree e.root n p e.count q (still (λ s. L.flagged 16 (L.not_float_only s)) h))
   unfolding D.member_store
-  member_store_lem = flagged_does (λ f. S.sets USES_MEMBERS (S.not_float_only f)) (λ s. L.flagged 16 (L.not_float_only s)) members_move root_var_lem
+  member_store_lem = flagged_does (λ f. S.sets USES_MEMBERS (S.not_float_only f)) (λ s. L.flagged 16 (L.not_float_only s)) members_move root_lem
 
 module _ (tree : List ℕ) (c : Counts) (n p : ℕ) (few : n ≤ LEVELS) (sound : Sound n tree p) (small : length tree ≤ 6144) where
   abbrev path : P.Path
@@ -348,11 +338,11 @@ module _ (tree : List ℕ) (c : Counts) (n p : ℕ) (few : n ≤ LEVELS) (sound 
 
   -- by whether the target is a link, and by where its path ends
   member_if : (q : ℕ) (b : Bool) (o : Option PathEnd) → PathIs tree n path o (R.path_hashes tree n p) → Does tree (cond (b && path.fine) (D.member_store path q) (failing 7)) c
-      (either b (R.with_path o λ e h. R.root_var tree e.root n p e.count q (still (λ s. L.flagged 16 (L.not_float_only s)) h)) (W.failed Refusal.Failed))
+      (either b (R.with_path o λ e h. R.store_under tree e.root n p e.count q (still (λ s. L.flagged 16 (L.not_float_only s)) h)) (W.failed Refusal.Failed))
   member_if q false o i = failing_does Refusal.Failed
   member_if q true None i = subst (λ (x : Bool). Does tree (cond x (D.member_store path q) (failing 7)) c (W.failed Refusal.Failed)) (sym i) (failing_does Refusal.Failed)
   member_if q true (Some e) i =
-      subst (λ (x : Bool). Does tree (cond x (D.member_store path q) (failing 7)) c (λ h. R.root_var tree e.root n p e.count q (still (λ s. L.flagged 16 (L.not_float_only s)) h)))
+      subst (λ (x : Bool). Does tree (cond x (D.member_store path q) (failing 7)) c (λ h. R.store_under tree e.root n p e.count q (still (λ s. L.flagged 16 (L.not_float_only s)) h)))
       (sym i.fine_is) (member_store_lem tree c n p path e q small i)
 
   store_member_lem : (q : ℕ) → Does tree (cond (D.is_member (rule_at (op_at tree p)) && path.fine) (D.member_store path q) (failing 7)) c (R.store_member tree n p q)
@@ -361,13 +351,13 @@ module _ (tree : List ℕ) (c : Counts) (n p : ℕ) (few : n ≤ LEVELS) (sound 
       subst (λ (x : Bool). Does tree (cond (x && path.fine) (D.member_store path q) (failing 7)) c (R.store_member tree n p q)) (sym (member_same (rule_at (op_at tree p))))
       (member_if q (R.is_link tree p) (R.path_end tree n p) (path_is tree n p few sound))
 
-  store_temp_lem : (q : ℕ) → Does tree (P.as_name 5 (payload_at tree p) (cond (D.is_member (rule_at (op_at tree p)) && path.fine) (D.member_store path q) (failing 7)) (λ x. with_temp x λ t. put (I.plain (I.store_temp t q)))) c (R.store_temp tree n p q)
-  unfolding R.store_temp word_of
-  store_temp_lem q = as_name_lem 5 p (node_sound n tree p sound) small (λ x. with_temp x λ t. put (I.plain (I.store_temp t q))) (store_member_lem q) (λ r t. temp_does r t (λ i. instr_does (I.plain (I.store_temp i q)) refl))
-
   stored_to : (a : ℕ) → Does tree (D.stores (rule_at (op_at tree p)) (payload_at tree p) (P.path (tree_at n tree p)) (post_bits tree a)) c (R.store tree n p a)
-  unfolding D.stores R.store R.store_var word_of
-  stored_to a = post_does (post_bits tree a) (λ q. as_name_lem 4 p (node_sound n tree p sound) small (λ x. with_name x λ k. put (I.plain (I.store_var k q))) (store_temp_lem q) (λ r t. name_does r t (λ i. instr_does (I.plain (I.store_var i q)) refl)))
+  unfolding D.stores R.store R.store_to put_variable word_of
+  stored_to a = post_does (post_bits tree a) (λ q.
+      found_lem p (node_sound n tree p sound) small (R.store_member tree n p q) (λ i. put_variable 10 11 i q) _ _
+      (store_member_lem q)
+      (λ r t. name_does r t (λ i. instr_does (I.plain (I.store_var i q)) refl))
+      (λ r t. temp_does r t (λ i. instr_does (I.plain (I.store_temp i q)) refl)))
 
 -- n are the target's levels; the post is the one of the node at a
 pub store_does : {tree : List ℕ} {c : Counts} (n p a : ℕ) → n ≤ LEVELS → Sound n tree p → length tree ≤ 6144 → Does tree (D.stores (rule_at (op_at tree p)) (payload_at tree p) (P.path (tree_at n tree p)) (post_bits tree a)) c (R.store tree n p a)

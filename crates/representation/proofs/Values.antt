@@ -31,7 +31,7 @@ use Rattle.representation.proofs.OpenCode.{failing_does}
 use Rattle.representation.proofs.Branches.{instr_does}
 use Rattle.representation.proofs.Arguments.{Children}
 use Rattle.representation.proofs.Sound.{NodeSound, as_name_lem, float_same, const_same, string_same, resource_same}
-use Rattle.representation.proofs.Kin.{one_rel, just_rel, constant_does, put_post_lem, sets_move, not_float_move, sets_not_move}
+use Rattle.representation.proofs.Kin.{one_rel, just_rel, constant_does, put_post_lem, found_lem, sets_move, not_float_move, sets_not_move}
 
 module _ {tree : List ℕ} {c : Counts} (p : ℕ) where
   pub float_does : Does tree (constant (P.float_of (payload_at tree p))) c (B.constant (Q.float_of (payload_ref_at tree p)))
@@ -55,15 +55,14 @@ module _ {tree : List ℕ} {c : Counts} (p : ℕ) where
 
   module _ (sound : NodeSound tree p) (short : length tree ≤ 6144) where
     pub load_does : Does tree (D.loaded (payload_at tree p) (L.post_bits tree p)) c (R.load tree p)
-    unfolding D.loaded R.load R.load_var R.load_temp R.load_context word_of
+    unfolding D.loaded R.load R.load_context L.put_variable B.name Y.flagged word_of
     load_does = post_does (L.post_bits tree p) (λ q.
-        as_name_lem 4 p sound short _
-        (as_name_lem 5 p sound short _
+        found_lem p sound short (R.load_context tree p q) (λ i h. L.put_variable 5 6 i q (R.read_flagged i h)) _ _
         (as_name_lem 3 p sound short _
         (failing_does Refusal.Failed)
         (λ r t. flagged_does (S.sets READS_CONTEXT) (Y.flagged 8) (sets_move 8) (name_does r t (λ k. instr_does (N.reading (N.load_ctx k q)) refl))))
+        (λ r t. flagged_does (S.sets READS_ACTOR_VARS) (Y.flagged 2) (sets_move 2) (name_does r t (λ k. instr_does (N.reading (N.load_var k q)) refl)))
         (λ r t. temp_does r t (λ k. instr_does (N.reading (N.load_temp k q)) refl)))
-        (λ r t. flagged_does (S.sets READS_ACTOR_VARS) (Y.flagged 2) (sets_move 2) (name_does r t (λ k. instr_does (N.reading (N.load_var k q)) refl))))
 
     -- behind a member's base
     pub member_put_lem : (last : NameRef) → TextOf tree last → Does tree (P.as_name 6 (payload_at tree p) (failing 7) (λ n. with_member (record { own = n; last = named tree last }) λ m. with_post (L.post_bits tree p) λ q. put (N.reading (N.member m q)))) c (R.member_put tree p last)
