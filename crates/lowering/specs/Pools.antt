@@ -29,12 +29,16 @@ found count k n room words at entry = (
   interned_words k n room words at entry,
 )
 
--- 01, Modules, pools.rs: "consts by bits"
+-- the mark behind a constant's bits where all places with these bits share the entry, as they all do
+abbrev pub SHARED : ℕ
+SHARED = 0
+
+-- 01, Modules, pools.rs: "consts by bits", and by the mark behind them
 unfoldable pub konst : ℕ → Held → Found
 konst bits h =
     let n = h.0.consts in
-    let k = interned_index (word_hit h.1 CONSTS bits) n in
-    found (λ c. set_consts c h.0) k n CONSTS_ROOM h.1 (CONSTS + n) (bits ∷ [])
+    let k = interned_index (pair_hit h.1 CONSTS bits SHARED) n in
+    found (λ c. set_consts c h.0) k n CONSTS_ROOM h.1 (CONSTS + 2 * n) (bits ∷ SHARED ∷ [])
 
 unfoldable pub hash : ℕ → Held → Found
 hash v h =

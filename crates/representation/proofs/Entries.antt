@@ -13,8 +13,8 @@ use Rattle.lowering.specs.Search.{word_hit, pair_hit, name_hit, member_hit}
 use Rattle.lowering.proofs.Slots.{same}
 use Rattle.lowering.proofs.Hits.{word_hit_lem, pair_hit_lem, name_hit_lem, member_hit_lem}
 use Rattle.workspace.specs.Words.{high, low}
-use Rattle.lowering.specs.Pools.{text_place}
-use Rattle.representation.proofs.Represents.{WordAt, MemberAt}
+use Rattle.lowering.specs.Pools.{SHARED, text_place}
+use Rattle.representation.proofs.Represents.{WordAt, ConstIs, MemberAt}
 
 -- ---- equal keys
 
@@ -43,6 +43,12 @@ word_keyed v o = record {
       let e : o + 1 * i ≡ o + i = omega arith in
       let r : get_or ws (o + i) 0 ≡ x = subst (λ (p : ℕ). get_or ws p 0 ≡ x) e q in
       word_hit_lem ws o (ℕ_discrete (itself x) (itself v)) v i (λ p. sym r ∙ p) (λ p. r ∙ p);
+}
+
+pub const_keyed : (v o : ℕ) → Keyed itself ℕ_discrete v 2 ConstIs o (v ∷ SHARED ∷ []) (λ ws. pair_hit ws o v SHARED)
+const_keyed v o = record {
+  stored = λ us p s. (first_stored us p v (s 0 (omega arith)), s 1 (omega arith));
+  decides = λ ws i x q. pair_hit_lem ws o (ℕ_discrete (itself x) (itself v)) v SHARED i (λ p. sym q.0 ∙ p.0) (λ p. (q.0 ∙ p, q.1));
 }
 
 pub hash_keyed : (v o : ℕ) → Keyed itself ℕ_discrete v 2 HashIs o (high v ∷ low v ∷ []) (λ ws. pair_hit ws o (high v) (low v))

@@ -23,10 +23,10 @@ use Rattle.lowering.specs.Pools.{Found, found, text_place, after}
 use Rattle.lowering.specs.Parts as L
 use Rattle.lowering.specs.Parts.{Step, going}
 use Rattle.representation.proofs.Rows.{Local, Apart}
-use Rattle.representation.proofs.Represents.{PoolsHeld, WordAt, MemberAt, Abs, Fits, Table, Content, Does, Enters, run, on_state}
-use Rattle.representation.proofs.Keeps.{agree_below, agree_above, word_local, post_local, hash_local, name_local, member_local, table_keep, pools_changed}
+use Rattle.representation.proofs.Represents.{PoolsHeld, WordAt, ConstIs, MemberAt, Abs, Fits, Table, Content, Does, Enters, run, on_state}
+use Rattle.representation.proofs.Keeps.{agree_below, agree_above, word_local, const_local, post_local, hash_local, name_local, member_local, table_keep, pools_changed}
 use Rattle.representation.proofs.Pools.{length_intern, slot_within, apart_wider, interned_apart, table_slot, table_interned}
-use Rattle.representation.proofs.Entries.{Keyed, word_keyed, hash_keyed, post_keyed, name_keyed, member_keyed, TextOf, read_of}
+use Rattle.representation.proofs.Entries.{Keyed, word_keyed, const_keyed, hash_keyed, post_keyed, name_keyed, member_keyed, TextOf, read_of}
 
 -- ---- the law
 
@@ -125,9 +125,9 @@ region_enters {tree} {X} {w} {Q} {o} {e} {room} {pool} {set_pool} {count} {set_c
 -- ---- the six regions
 
 module _ (tree : List ℕ) where
-  pub consts_region : Region tree 1 WordAt CONSTS POSTS 384 (λ P. P.consts) set_consts (λ s. s.consts) F.set_consts
+  pub consts_region : Region tree 2 ConstIs CONSTS POSTS 384 (λ P. P.consts) set_consts (λ s. s.consts) F.set_consts
   consts_region = record {
-    entries = word_local;
+    entries = const_local;
     fits = λ A xs l f. search rules;
     size = λ A xs f. f.consts;
     table = λ c A h x. x.tables.pools_held.the_consts;
@@ -148,7 +148,7 @@ module _ (tree : List ℕ) where
     size = λ A xs f. f.posts;
     table = λ c A h x. x.tables.pools_held.the_posts;
     changed = λ c A h vs n xs b x a y. content_pools A tree c h b x vs (apart_wider a CONSTS STORES (omega arith) (omega arith)) (record {
-      the_consts = table_keep 1 WordAt word_local h.1 vs CONSTS _ _ POSTS (omega (arith, b.consts)) (agree_below a (omega arith)) x.tables.pools_held.the_consts;
+      the_consts = table_keep 2 ConstIs const_local h.1 vs CONSTS _ _ POSTS (omega (arith, b.consts)) (agree_below a (omega arith)) x.tables.pools_held.the_consts;
       the_posts = y;
       the_hashes = table_keep 2 HashIs hash_local h.1 vs HASHES _ _ NAMES (omega (arith, b.hashes)) (agree_above a (omega arith)) x.tables.pools_held.the_hashes;
       the_names = table_keep 3 (NameIs tree) (name_local tree) h.1 vs NAMES _ _ TEMPS (omega (arith, b.names)) (agree_above a (omega arith)) x.tables.pools_held.the_names;
@@ -164,7 +164,7 @@ module _ (tree : List ℕ) where
     size = λ A xs f. f.hashes;
     table = λ c A h x. x.tables.pools_held.the_hashes;
     changed = λ c A h vs n xs b x a y. content_pools A tree c h b x vs (apart_wider a CONSTS STORES (omega arith) (omega arith)) (record {
-      the_consts = table_keep 1 WordAt word_local h.1 vs CONSTS _ _ POSTS (omega (arith, b.consts)) (agree_below a (omega arith)) x.tables.pools_held.the_consts;
+      the_consts = table_keep 2 ConstIs const_local h.1 vs CONSTS _ _ POSTS (omega (arith, b.consts)) (agree_below a (omega arith)) x.tables.pools_held.the_consts;
       the_posts = table_keep 2 PostIs post_local h.1 vs POSTS _ _ HASHES (omega (arith, b.posts)) (agree_below a (omega arith)) x.tables.pools_held.the_posts;
       the_hashes = y;
       the_names = table_keep 3 (NameIs tree) (name_local tree) h.1 vs NAMES _ _ TEMPS (omega (arith, b.names)) (agree_above a (omega arith)) x.tables.pools_held.the_names;
@@ -180,7 +180,7 @@ module _ (tree : List ℕ) where
     size = λ A xs f. f.names;
     table = λ c A h x. x.tables.pools_held.the_names;
     changed = λ c A h vs n xs b x a y. content_pools A tree c h b x vs (apart_wider a CONSTS STORES (omega arith) (omega arith)) (record {
-      the_consts = table_keep 1 WordAt word_local h.1 vs CONSTS _ _ POSTS (omega (arith, b.consts)) (agree_below a (omega arith)) x.tables.pools_held.the_consts;
+      the_consts = table_keep 2 ConstIs const_local h.1 vs CONSTS _ _ POSTS (omega (arith, b.consts)) (agree_below a (omega arith)) x.tables.pools_held.the_consts;
       the_posts = table_keep 2 PostIs post_local h.1 vs POSTS _ _ HASHES (omega (arith, b.posts)) (agree_below a (omega arith)) x.tables.pools_held.the_posts;
       the_hashes = table_keep 2 HashIs hash_local h.1 vs HASHES _ _ NAMES (omega (arith, b.hashes)) (agree_below a (omega arith)) x.tables.pools_held.the_hashes;
       the_names = y;
@@ -196,7 +196,7 @@ module _ (tree : List ℕ) where
     size = λ A xs f. f.temps;
     table = λ c A h x. x.tables.pools_held.the_temps;
     changed = λ c A h vs n xs b x a y. content_pools A tree c h b x vs (apart_wider a CONSTS STORES (omega arith) (omega arith)) (record {
-      the_consts = table_keep 1 WordAt word_local h.1 vs CONSTS _ _ POSTS (omega (arith, b.consts)) (agree_below a (omega arith)) x.tables.pools_held.the_consts;
+      the_consts = table_keep 2 ConstIs const_local h.1 vs CONSTS _ _ POSTS (omega (arith, b.consts)) (agree_below a (omega arith)) x.tables.pools_held.the_consts;
       the_posts = table_keep 2 PostIs post_local h.1 vs POSTS _ _ HASHES (omega (arith, b.posts)) (agree_below a (omega arith)) x.tables.pools_held.the_posts;
       the_hashes = table_keep 2 HashIs hash_local h.1 vs HASHES _ _ NAMES (omega (arith, b.hashes)) (agree_below a (omega arith)) x.tables.pools_held.the_hashes;
       the_names = table_keep 3 (NameIs tree) (name_local tree) h.1 vs NAMES _ _ TEMPS (omega (arith, b.names)) (agree_below a (omega arith)) x.tables.pools_held.the_names;
@@ -212,7 +212,7 @@ module _ (tree : List ℕ) where
     size = λ A xs f. f.members;
     table = λ c A h x. x.tables.pools_held.the_members;
     changed = λ c A h vs n xs b x a y. content_pools A tree c h b x vs (apart_wider a CONSTS STORES (omega arith) (omega arith)) (record {
-      the_consts = table_keep 1 WordAt word_local h.1 vs CONSTS _ _ POSTS (omega (arith, b.consts)) (agree_below a (omega arith)) x.tables.pools_held.the_consts;
+      the_consts = table_keep 2 ConstIs const_local h.1 vs CONSTS _ _ POSTS (omega (arith, b.consts)) (agree_below a (omega arith)) x.tables.pools_held.the_consts;
       the_posts = table_keep 2 PostIs post_local h.1 vs POSTS _ _ HASHES (omega (arith, b.posts)) (agree_below a (omega arith)) x.tables.pools_held.the_posts;
       the_hashes = table_keep 2 HashIs hash_local h.1 vs HASHES _ _ NAMES (omega (arith, b.hashes)) (agree_below a (omega arith)) x.tables.pools_held.the_hashes;
       the_names = table_keep 3 (NameIs tree) (name_local tree) h.1 vs NAMES _ _ TEMPS (omega (arith, b.names)) (agree_below a (omega arith)) x.tables.pools_held.the_names;
@@ -293,7 +293,7 @@ post_does_if tree f c false v G d = record { back = d.back; keep = d.keep }
 module _ {tree : List ℕ} {f : ℕ → Lowering} {F : ℕ → Step} {c : Counts} where
   pub const_does : (v : ℕ) → ((i : ℕ) → Does tree (f i) c (F i)) → Does tree (with_const v f) c (L.with_const v F)
   unfolding B.konst
-  const_does v d = with_does (region_enters (consts_region tree) (word_keyed v CONSTS) (λ n. CONSTS + n) (λ n. omega arith) (λ n l. omega arith) (omega arith)) d
+  const_does v d = with_does (region_enters (consts_region tree) (const_keyed v CONSTS) (λ n. CONSTS + 2 * n) (λ n. omega arith) (λ n l. omega arith) (omega arith)) d
 
   pub hash_does : (v : ℕ) → ((i : ℕ) → Does tree (f i) c (F i)) → Does tree (with_hash v f) c (L.with_hash v F)
   unfolding B.hash

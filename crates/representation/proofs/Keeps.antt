@@ -12,7 +12,7 @@ use Rattle.semantics.proofs.Sizes.{weigh_length}
 use Rattle.workspace.specs.Layout.{OPEN, FINISHED, CONSTS, POSTS, HASHES, NAMES, TEMPS, MEMBERS, STORES, PATHS, CALLS, ARGUMENTS}
 use Rattle.card.specs.Holds.{PostIs, HashIs, TextIs, NameIs}
 use Rattle.representation.proofs.Rows.{Rows, Local, Agree, Apart}
-use Rattle.representation.proofs.Represents.{CodeHeld, PoolsHeld, StoresHeld, CallsHeld, ItemAt, InstructionAt, WordAt, MemberAt, StoreAt, places, first_place, Filled, CallsFrom, OpenCall, OpenCallAt, OpenCalls, Abs, Fits, finished_code, Table, Tables}
+use Rattle.representation.proofs.Represents.{CodeHeld, PoolsHeld, StoresHeld, CallsHeld, ItemAt, InstructionAt, WordAt, ConstIs, MemberAt, StoreAt, places, first_place, Filled, CallsFrom, OpenCall, OpenCallAt, OpenCalls, Abs, Fits, finished_code, Table, Tables}
 
 -- what lies before the changed words, or behind them, is as it was
 pub agree_below : {ws vs : List ℕ} {lo hi : ℕ} → Apart ws vs lo hi → {o e : ℕ} → e ≤ lo → Agree ws vs o e
@@ -31,6 +31,9 @@ instruction_local ws vs p x g h = search rules
 
 pub word_local : Local 1 WordAt
 word_local ws vs p x g h = g p (omega arith) (omega arith) ∙ h
+
+pub const_local : Local 2 ConstIs
+const_local ws vs p x g h = search rules
 
 pub post_local : Local 2 PostIs
 post_local ws vs p x g h = search rules
@@ -147,7 +150,7 @@ module _ (tree ws vs : List ℕ) (A : Abs) (f : Fits A) where
   pub pools_held_keep : Agree ws vs CONSTS STORES → {n1 n2 n3 n4 n5 n6 : ℕ} → let P = A.state.pools in
       PoolsHeld tree ws n1 n2 n3 n4 n5 n6 P.consts P.posts P.hashes P.names P.temps P.members → PoolsHeld tree vs n1 n2 n3 n4 n5 n6 P.consts P.posts P.hashes P.names P.temps P.members
   pools_held_keep g t = record {
-    the_consts = table_keep 1 WordAt word_local ws vs CONSTS _ _ POSTS (omega (arith, f.consts)) (λ j x y. g j x (omega arith)) t.the_consts;
+    the_consts = table_keep 2 ConstIs const_local ws vs CONSTS _ _ POSTS (omega (arith, f.consts)) (λ j x y. g j x (omega arith)) t.the_consts;
     the_posts = table_keep 2 PostIs post_local ws vs POSTS _ _ HASHES (omega (arith, f.posts)) (λ j x y. g j (omega arith) (omega arith)) t.the_posts;
     the_hashes = table_keep 2 HashIs hash_local ws vs HASHES _ _ NAMES (omega (arith, f.hashes)) (λ j x y. g j (omega arith) (omega arith)) t.the_hashes;
     the_names = table_keep 3 (NameIs tree) (name_local tree) ws vs NAMES _ _ TEMPS (omega (arith, f.names)) (λ j x y. g j (omega arith) (omega arith)) t.the_names;

@@ -18,7 +18,7 @@ use Rattle.code.specs.Segments.{BREAK, CONTINUE}
 use Rattle.workspace.specs.Layout.{OPEN, FINISHED, CONSTS, POSTS, HASHES, NAMES, TEMPS, MEMBERS, STORES, CALLS, ARGUMENTS}
 use Rattle.card.specs.Holds.{PostIs, HashIs, NameIs, MemberIs, StoreIs}
 use Rattle.lowering.specs.Held.{Held}
-use Rattle.lowering.specs.Pools.{Found}
+use Rattle.lowering.specs.Pools.{SHARED, Found}
 use Rattle.lowering.specs.Parts.{Step, front}
 use Rattle.representation.proofs.Rows.{Rows}
 
@@ -46,6 +46,10 @@ InstructionAt ws p i = (get_or ws p 0 ≡ instruction_front i) × (get_or ws (p 
 
 abbrev pub WordAt : List ℕ → ℕ → ℕ → Type 0
 WordAt ws p v = get_or ws p 0 ≡ v
+
+-- a constant: its bits and the mark
+abbrev pub ConstIs : List ℕ → ℕ → ℕ → Type 0
+ConstIs ws p v = (get_or ws p 0 ≡ v) × (get_or ws (p + 1) 0 ≡ SHARED)
 
 -- a member, with the words of the last one's hash, which are part of its key
 abbrev pub MemberAt : List ℕ → List ℕ → ℕ → MemberRead → Type 0
@@ -153,7 +157,7 @@ pub record CodeHeld (ws : List ℕ) (top base finished : ℕ) (outer code : List
 
 -- the six pools that are interned
 pub record PoolsHeld (tree ws : List ℕ) (consts posts hashes names temps members : ℕ) (cs : List ℕ) (ps : List Post) (hs : List ℕ) (ns : List Name) (ts : List ℕ) (ms : List MemberRead) : Type 0 where
-  pub the_consts : Table 1 (WordAt ws) CONSTS consts cs
+  pub the_consts : Table 2 (ConstIs ws) CONSTS consts cs
   pub the_posts : Table 2 (PostIs ws) POSTS posts ps
   pub the_hashes : Table 2 (HashIs ws) HASHES hashes hs
   pub the_names : Table 3 (NameIs tree ws) NAMES names ns
