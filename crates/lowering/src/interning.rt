@@ -21,7 +21,7 @@ use workspace::words::{high, low};
 pub(crate) fn konst(b: &mut Builder<'_>, bits: u32) -> ConstIdx
     ensures { Gave b.old b.new result.0 (konst bits) }
 {
-    let i = regions::CONSTS.intern(b.words, &mut b.state.consts, &[bits]);
+    let i = regions::CONSTS.intern(b.words, &mut b.state.pools.consts, &[bits]);
     ConstIdx(u32::from(i))
 }
 
@@ -29,7 +29,7 @@ pub(crate) fn konst(b: &mut Builder<'_>, bits: u32) -> ConstIdx
 pub(crate) fn hash(b: &mut Builder<'_>, h: u64) -> HashIdx
     ensures { Gave b.old b.new result.0 (hash h) }
 {
-    let i = regions::HASHES.intern(b.words, &mut b.state.hashes, &[high(h), low(h)]);
+    let i = regions::HASHES.intern(b.words, &mut b.state.pools.hashes, &[high(h), low(h)]);
     HashIdx(u32::from(i))
 }
 
@@ -46,7 +46,7 @@ pub(crate) fn name(b: &mut Builder<'_>, n: NameRef) -> NameIdx
     ensures { Gave b.old b.new result.0 (name n) }
 {
     let entry = [high(n.hash), low(n.hash), text_place(n.at)];
-    let i = regions::NAMES.intern(b.words, &mut b.state.names, &entry);
+    let i = regions::NAMES.intern(b.words, &mut b.state.pools.names, &entry);
     NameIdx(i)
 }
 
@@ -63,7 +63,7 @@ pub(crate) fn member(b: &mut Builder<'_>, own: NameRef, last: NameRef) -> Member
         text_place(own.at),
         text_place(last.at),
     ];
-    let i = regions::MEMBERS.intern(b.words, &mut b.state.members, &entry);
+    let i = regions::MEMBERS.intern(b.words, &mut b.state.pools.members, &entry);
     MemberIdx(i)
 }
 
@@ -72,7 +72,7 @@ pub(crate) fn member(b: &mut Builder<'_>, own: NameRef, last: NameRef) -> Member
 fn slot(b: &mut Builder<'_>, named: NameIdx) -> TempIdx
     ensures { Gave b.old b.new result.0 (slot named.0) }
 {
-    let i = regions::TEMPS.intern(b.words, &mut b.state.temps, &[u32::from(named.0)]);
+    let i = regions::TEMPS.intern(b.words, &mut b.state.pools.temps, &[u32::from(named.0)]);
     TempIdx(i)
 }
 
@@ -93,7 +93,11 @@ pub(crate) fn post_of(b: &mut Builder<'_>, p: PostOp, bits: PostBits) -> PostIdx
     if is_identity(p, bits) {
         return PostIdx::PLAIN;
     }
-    let i = regions::POSTS.intern(b.words, &mut b.state.posts, &[bits.scale, bits.offset]);
+    let i = regions::POSTS.intern(
+        b.words,
+        &mut b.state.pools.posts,
+        &[bits.scale, bits.offset],
+    );
     PostIdx(i.saturating_add(1))
 }
 

@@ -1,7 +1,6 @@
 -- The builder's pools: what interning makes of the words is what the lowering's definition makes of its pools, and a lowering that goes on with the entry's index. Assumes nothing.
 use Rattle.std.proofs.Common.{rules, ◌≡◌, refl, sym, subst, Bool, true, false, cond, List, [], ◌∷◌, ℕ, suc, ◌+◌, ◌*◌, ◌≤◌, ◌<◌, arith, length}
 use native.Mathlib.Decide.{ℕ_discrete}
-use lib.Bits.{bit_or}
 use Rattle.ast.specs.Tree.{Name}
 use Rattle.numeric.specs.Post.{Post, is_identity}
 use Rattle.program.specs.Kinds.{USES_TEMPS}
@@ -15,15 +14,15 @@ use Rattle.workspace.specs.Layout.{CONSTS, POSTS, HASHES, NAMES, TEMPS, MEMBERS,
 use Rattle.card.specs.Holds.{PostIs, HashIs, NameIs}
 use Rattle.lowering.specs.Search.{pair_hit}
 use Rattle.lowering.specs.Regions.{interned_index}
-use Rattle.lowering.specs.Held as S
-use Rattle.builder.specs.Fields as F
+use Rattle.workspace.specs.declared.counts.Pools as N
 use Rattle.lowering.specs.Held.{Held}
+use Rattle.lowering.specs.Steps.{flagged}
 use Rattle.lowering.specs.Pools as B
 use Rattle.lowering.specs.Pools.{Found, found, text_place, after}
 use Rattle.lowering.specs.Parts as L
 use Rattle.lowering.specs.Parts.{Step, going}
 use Rattle.representation.proofs.Rows.{Local, Apart}
-use Rattle.representation.proofs.Represents.{PoolsHeld, WordAt, MemberAt, Abs, Fits, Table, Content, Does, Enters, run, on_state}
+use Rattle.representation.proofs.Represents.{ListsHeld, WordAt, MemberAt, Abs, Fits, Table, Content, Does, Enters, run, on_state}
 use Rattle.representation.proofs.Keeps.{agree_below, agree_above, word_local, post_local, hash_local, name_local, member_local, table_keep, pools_changed}
 use Rattle.representation.proofs.Pools.{length_intern, slot_within, apart_wider, interned_apart, table_slot, table_interned}
 use Rattle.representation.proofs.Entries.{Keyed, word_keyed, hash_keyed, post_keyed, name_keyed, member_keyed, TextOf, read_of}
@@ -42,15 +41,12 @@ with_does {tree} {g} {k} {E} m {f} {F} {c} d = record {
 -- ---- the six pools exchanged
 
 abbrev pooled : List ℕ → List Post → List ℕ → List Name → List ℕ → List MemberRead → State → State
-pooled cs ps hs ns ts ms s = set_pools (record { consts = cs; posts = ps; hashes = hs; names = ns; temps = ts; members = ms; stores = s.pools.stores; calls = s.pools.calls; segments = s.pools.segments }) s
-
-abbrev counted : ℕ → ℕ → ℕ → ℕ → ℕ → ℕ → S.State → S.State
-counted n1 n2 n3 n4 n5 n6 s = F.set_consts n1 (F.set_posts n2 (F.set_hashes n3 (F.set_names n4 (F.set_temps n5 (F.set_members n6 s)))))
+pooled cs ps hs ns ts ms s = set_pools (record s.pools { consts = cs; posts = ps; hashes = hs; names = ns; temps = ts; members = ms }) s
 
 module _ (A : Abs) where
   content_pools : (tree : List ℕ) (c : Counts) (h : Held) → Fits A → Content tree c h A → (vs : List ℕ) → Apart h.1 vs CONSTS STORES →
-      {n1 n2 n3 n4 n5 n6 : ℕ} {cs : List ℕ} {ps : List Post} {hs : List ℕ} {ns : List Name} {ts : List ℕ} {ms : List MemberRead} →
-      PoolsHeld tree vs n1 n2 n3 n4 n5 n6 cs ps hs ns ts ms → Content tree c (counted n1 n2 n3 n4 n5 n6 h.0, vs) (on_state (pooled cs ps hs ns ts ms) A)
+      {n : N.Pools} {cs : List ℕ} {ps : List Post} {hs : List ℕ} {ns : List Name} {ts : List ℕ} {ms : List MemberRead} →
+      ListsHeld tree vs n cs ps hs ns ts ms → Content tree c (B.set_pools n h.0, vs) (on_state (pooled cs ps hs ns ts ms) A)
   content_pools tree c h f x vs a t =
       record {
         enough = omega arith;
@@ -90,25 +86,25 @@ temp_index v s = slot_index (name_index v (uses_temps s)) (name_state v (uses_te
 
 -- ---- a region with room for a number of entries, from o up to e: its pool, and its count
 
-pub record Region (tree : List ℕ) {X : Type 0} (w : ℕ) (Q : List ℕ → ℕ → X → Type 0) (o e room : ℕ) (pool : Pools → List X) (set_pool : List X → Pools → Pools) (count : S.State → ℕ) (set_count : ℕ → S.State → S.State) : Type 0 where
+pub record Region (tree : List ℕ) {X : Type 0} (w : ℕ) (Q : List ℕ → ℕ → X → Type 0) (o e room : ℕ) (pool : Pools → List X) (set_pool : List X → Pools → Pools) (count : N.Pools → ℕ) (set_count : ℕ → N.Pools → N.Pools) : Type 0 where
   pub entries : Local w Q
   pub fits : (A : Abs) (xs : List X) → length (pool A.state.pools) ≤ length xs → Fits (on_state (λ s. set_pools (set_pool xs s.pools) s) A) → Fits A
   pub size : (A : Abs) (xs : List X) → Fits (on_state (λ s. set_pools (set_pool xs s.pools) s) A) → length xs ≤ room
-  pub table : (c : Counts) (A : Abs) (h : Held) → Content tree c h A → Table w (Q h.1) o (count h.0) (pool A.state.pools)
+  pub table : (c : Counts) (A : Abs) (h : Held) → Content tree c h A → Table w (Q h.1) o (count h.0.pools) (pool A.state.pools)
   -- only its words have changed, and they are a new table
-  pub changed : (c : Counts) (A : Abs) (h : Held) (vs : List ℕ) (n : ℕ) (xs : List X) → Fits A → Content tree c h A → Apart h.1 vs o e → Table w (Q vs) o n xs → Content tree c (set_count n h.0, vs) (on_state (λ s. set_pools (set_pool xs s.pools) s) A)
+  pub changed : (c : Counts) (A : Abs) (h : Held) (vs : List ℕ) (n : ℕ) (xs : List X) → Fits A → Content tree c h A → Apart h.1 vs o e → Table w (Q vs) o n xs → Content tree c (B.set_pools (set_count n h.0.pools) h.0, vs) (on_state (λ s. set_pools (set_pool xs s.pools) s) A)
 
 -- the entry is interned in the region
-pub region_enters : {tree : List ℕ} {X : Type 0} {w : ℕ} {Q : List ℕ → ℕ → X → Type 0} {o e room : ℕ} {pool : Pools → List X} {set_pool : List X → Pools → Pools} {count : S.State → ℕ} {set_count : ℕ → S.State → S.State} → Region tree w Q o e room pool set_pool count set_count →
+pub region_enters : {tree : List ℕ} {X : Type 0} {w : ℕ} {Q : List ℕ → ℕ → X → Type 0} {o e room : ℕ} {pool : Pools → List X} {set_pool : List X → Pools → Pools} {count : N.Pools → ℕ} {set_count : ℕ → N.Pools → N.Pools} → Region tree w Q o e room pool set_pool count set_count →
     {K : Type 0} {key : X → K} {dec : (a b : K) → Dec (a ≡ b)} {v : X} {entry : List ℕ} {hit : List ℕ → ℕ → Bool} → Keyed key dec v w Q o entry hit →
     (at : ℕ → ℕ) → ((n : ℕ) → at n ≡ o + w * n) → ((n : ℕ) → n < room → at n + length entry ≤ e) → e ≤ 16384 →
     Enters tree (λ s. set_pools (set_pool (intern key dec v (pool s.pools)) s.pools) s) (λ s. slot key dec v 0 (pool s.pools))
-    (λ h. found (λ n. set_count n h.0) (interned_index (hit h.1) (count h.0)) (count h.0) room h.1 (at (count h.0)) entry)
+    (λ h. found set_count h (interned_index (hit h.1) (count h.0.pools)) (count h.0.pools) room (at (count h.0.pools)) entry)
 region_enters {tree} {X} {w} {Q} {o} {e} {room} {pool} {set_pool} {count} {set_count} R {K} {key} {dec} {v} {entry} {hit} D at place inside end = record {
   back = back;
   index = λ c A h f x. index c A h x;
   keep = λ c A h f x.
-      let n = count h.0 in
+      let n = count h.0.pools in
       let k = interned_index (hit h.1) n in
       let p = place n in
       R.changed c A h _ _ _ (back A f) x
@@ -119,13 +115,13 @@ region_enters {tree} {X} {w} {Q} {o} {e} {room} {pool} {set_pool} {count} {set_c
     back : (A : Abs) → Fits (on_state (λ s. set_pools (set_pool (intern key dec v (pool s.pools)) s.pools) s) A) → Fits A
     back A f = R.fits A _ (length_intern key dec v (pool A.state.pools)) f
 
-    index : (c : Counts) (A : Abs) (h : Held) → Content tree c h A → interned_index (hit h.1) (count h.0) ≡ slot key dec v 0 (pool A.state.pools)
-    index c A h x = table_slot key dec v w Q o h.1 (count h.0) (pool A.state.pools) (hit h.1) (D.decides h.1) (R.table c A h x)
+    index : (c : Counts) (A : Abs) (h : Held) → Content tree c h A → interned_index (hit h.1) (count h.0.pools) ≡ slot key dec v 0 (pool A.state.pools)
+    index c A h x = table_slot key dec v w Q o h.1 (count h.0.pools) (pool A.state.pools) (hit h.1) (D.decides h.1) (R.table c A h x)
 
 -- ---- the six regions
 
 module _ (tree : List ℕ) where
-  pub consts_region : Region tree 1 WordAt CONSTS POSTS 384 (λ P. P.consts) set_consts (λ s. s.consts) F.set_consts
+  pub consts_region : Region tree 1 WordAt CONSTS POSTS 384 (λ P. P.consts) set_consts (λ p. p.consts) (λ n p. record p { consts = n })
   consts_region = record {
     entries = word_local;
     fits = λ A xs l f. search rules;
@@ -141,7 +137,7 @@ module _ (tree : List ℕ) where
     });
   }
 
-  pub posts_region : Region tree 2 PostIs POSTS HASHES 384 (λ P. P.posts) set_posts (λ s. s.posts) F.set_posts
+  pub posts_region : Region tree 2 PostIs POSTS HASHES 384 (λ P. P.posts) set_posts (λ p. p.posts) (λ n p. record p { posts = n })
   posts_region = record {
     entries = post_local;
     fits = λ A xs l f. search rules;
@@ -157,7 +153,7 @@ module _ (tree : List ℕ) where
     });
   }
 
-  pub hashes_region : Region tree 2 HashIs HASHES NAMES 384 (λ P. P.hashes) set_hashes (λ s. s.hashes) F.set_hashes
+  pub hashes_region : Region tree 2 HashIs HASHES NAMES 384 (λ P. P.hashes) set_hashes (λ p. p.hashes) (λ n p. record p { hashes = n })
   hashes_region = record {
     entries = hash_local;
     fits = λ A xs l f. search rules;
@@ -173,7 +169,7 @@ module _ (tree : List ℕ) where
     });
   }
 
-  pub names_region : Region tree 3 (NameIs tree) NAMES TEMPS 256 (λ P. P.names) set_names (λ s. s.names) F.set_names
+  pub names_region : Region tree 3 (NameIs tree) NAMES TEMPS 256 (λ P. P.names) set_names (λ p. p.names) (λ n p. record p { names = n })
   names_region = record {
     entries = (name_local tree);
     fits = λ A xs l f. search rules;
@@ -189,7 +185,7 @@ module _ (tree : List ℕ) where
     });
   }
 
-  pub temps_region : Region tree 1 WordAt TEMPS MEMBERS 256 (λ P. P.temps) set_temps (λ s. s.temps) F.set_temps
+  pub temps_region : Region tree 1 WordAt TEMPS MEMBERS 256 (λ P. P.temps) set_temps (λ p. p.temps) (λ n p. record p { temps = n })
   temps_region = record {
     entries = word_local;
     fits = λ A xs l f. search rules;
@@ -205,7 +201,7 @@ module _ (tree : List ℕ) where
     });
   }
 
-  pub members_region : Region tree 6 (MemberAt tree) MEMBERS STORES 256 (λ P. P.members) set_members (λ s. s.members) F.set_members
+  pub members_region : Region tree 6 (MemberAt tree) MEMBERS STORES 256 (λ P. P.members) set_members (λ p. p.members) (λ n p. record p { members = n })
   members_region = record {
     entries = (member_local tree);
     fits = λ A xs l f. search rules;
@@ -234,7 +230,7 @@ module _ (tree : List ℕ) where
 
   -- a post that is no identity, as one of the pool
   abbrev pooled_found : Post → Held → Found
-  pooled_found v h = found (λ n. F.set_posts n h.0) (interned_index (pair_hit h.1 POSTS v.scale v.offset) h.0.posts) h.0.posts 384 h.1 (POSTS + 2 * h.0.posts) (v.scale ∷ v.offset ∷ [])
+  pooled_found v h = found (λ n p. record p { posts = n }) h (interned_index (pair_hit h.1 POSTS v.scale v.offset) h.0.pools.posts) h.0.pools.posts 384 (POSTS + 2 * h.0.pools.posts) (v.scale ∷ v.offset ∷ [])
 
   pooled_enters : (v : Post) → Enters tree (pooled_state v) (pooled_index v) (pooled_found v)
   pooled_enters v = region_enters (posts_region tree) (post_keyed v POSTS) (λ n. POSTS + 2 * n) (λ n. omega arith) (λ n l. omega arith) (omega arith)
@@ -256,13 +252,13 @@ module _ (tree : List ℕ) where
 
 -- ---- temps
 
-content_flags : (tree : List ℕ) (c : Counts) (A : Abs) (h : Held) → Content tree c h A → Content tree c (F.set_flags (bit_or h.0.flags USES_TEMPS) h.0, h.1) (on_state uses_temps A)
-unfolding sets
+content_flags : (tree : List ℕ) (c : Counts) (A : Abs) (h : Held) → Content tree c h A → Content tree c (flagged USES_TEMPS h.0, h.1) (on_state uses_temps A)
+unfolding flagged sets
 content_flags tree c A h x = search rules
 
 module _ (tree : List ℕ) where
   abbrev flagged_name : NameRef → Held → Held
-  flagged_name r h = (F.set_flags (bit_or (B.name r h).0.state.flags USES_TEMPS) (B.name r h).0.state, (B.name r h).1)
+  flagged_name r h = (flagged USES_TEMPS (B.name r h).0.state, (B.name r h).1)
 
   pub temp_enters : (r : NameRef) → TextOf tree r → Enters tree (temp_state (named tree r)) (temp_index (named tree r)) (B.temp r)
   unfolding B.temp

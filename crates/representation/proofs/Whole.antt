@@ -31,10 +31,11 @@ use Rattle.semantics.proofs.Regions.{regions}
 use Rattle.semantics.proofs.Fitting.{program_fits}
 use Rattle.semantics.proofs.AcceptedTrees.{parsed_fits, parsed_short}
 use Rattle.workspace.specs.Layout.{OPEN, FINISHED, CONSTS, POSTS, HASHES, NAMES, TEMPS, MEMBERS, STORES, CALLS, ARGUMENTS}
+use Rattle.builder.specs.declared.Marks.{Marks}
 use Rattle.card.specs.Holds.{Each, InstructionIs, MemberIs, CallIs, Holds}
 use Rattle.lowering.specs.Parts as L
 use Rattle.lowering.specs.Rules as R
-use Rattle.representation.specs.Sections.{in_loop, sections_of}
+use Rattle.representation.specs.Sections.{in_loop, final_marks, sections_of}
 use Rattle.representation.proofs.Rows.{Rows}
 use Rattle.representation.proofs.Represents.{ItemAt, InstructionAt, WordAt, MemberAt, places, first_place, Filled, CallsFrom, filled, Abs, Fits, Table, Counter, Content, Does}
 use Rattle.representation.proofs.Pools.{rows_at}
@@ -202,15 +203,15 @@ members_held {tree} ws xs h k l =
 
 -- ---- the start and the end
 
-flags_final : (b : Bool) (v : ℕ) (f : S.Flags) → v ≡ f.bits → cond b v (bit_and v 2046) ≡ (cond {A = S.Flags} b f (S.not_float_only f)).bits
-unfolding S.not_float_only
-flags_final true v f q = q
-flags_final false v f q = ap (λ (n : ℕ). bit_and n 2046) q
+flags_final : (b : Bool) (m : Marks) (f : S.Flags) → m.bits ≡ f.bits → (final_marks b m).bits ≡ (cond {A = S.Flags} b f (S.not_float_only f)).bits
+unfolding final_marks S.not_float_only
+flags_final true m f q = q
+flags_final false m f q = ap (λ (n : ℕ). bit_and n 2046) q
 
-loop_final : (b v : Bool) (f : S.Flags) → v ≡ f.float_loop → cond b v false ≡ (cond {A = S.Flags} b f (S.not_float_only f)).float_loop
-unfolding S.not_float_only
-loop_final true v f q = q
-loop_final false v f q = refl
+loop_final : (b : Bool) (m : Marks) (f : S.Flags) → m.float_loop ≡ f.float_loop → (final_marks b m).float_loop ≡ (cond {A = S.Flags} b f (S.not_float_only f)).float_loop
+unfolding final_marks S.not_float_only
+loop_final true m f q = q
+loop_final false m f q = refl
 
 abbrev nothing_lowered : Abs
 nothing_lowered = mk [] [] false [] empty
@@ -222,12 +223,13 @@ begins : (tree words : List ℕ) → 16384 ≤ length words → Content tree not
 unfolding place_segments
 begins tree words h = record {
   enough = h;
-  beside = let z : Counter 0 0 0 0 = record { open_is = refl; most_is = refl; within = omega arith } in record { waiting_is = refl; counted = record { operands = z; loops = z; handlers = z }; bits_are = refl; float_loop_is = refl; number_is = refl };
+  beside = let z : Counter 0 0 0 0 = record { open_is = refl; most_is = refl; within = omega arith } in record { counted = record { operands = z; loops = z; handlers = z }; bits_are = refl; float_loop_is = refl; number_is = refl };
   tables = record {
     code_held = record {
       open_base = refl;
       open_code = no_entries;
       the_finished_code = no_entries;
+      waiting_is = refl;
     };
     pools_held = record { the_consts = no_entries; the_posts = no_entries; the_hashes = no_entries; the_names = no_entries; the_temps = no_entries; the_members = no_entries };
     stores_held = record { the_stores = no_entries; path_count = refl };
@@ -301,7 +303,7 @@ module _ (tree words : List ℕ) (small : Bytes tree) (passed : questions tree �
       let lm = length-map x.code (settle 0 0 0) in
       let la = length-map x.code (aim 0 0) in
       let pl = past_length x.code in
-      let eb : h.0.top ≡ b = omega arith in
+      let eb : h.0.code.top ≡ b = omega arith in
       let e0 : b + 0 ≡ b = omega arith in
       let ps : place_segments s.segments b ≡ map (relocate b) (place_segments s.segments 0) = ap (λ (m : ℕ). place_segments s.segments m) (sym e0) ∙ place_shift b 0 s.segments in
       let fit = fits_all.code.each in
@@ -334,10 +336,10 @@ module _ (tree words : List ℕ) (small : Bytes tree) (passed : questions tree �
         stores_count = sym t.stores_held.the_stores.count;
         stores = λ k l. (each_rows 4 _ STORES s.stores _ t.stores_held.the_stores.rows k l).0;
         calls_count = length-map s.calls (place_call b) ∙ sym t.calls_held.call_count;
-        calls = subst (λ (m : ℕ). Each (record { index = 0; impl = 0; starts = [] }) (λ k q. CallIs ws m (CALLS + 4 * k) q) (map (place_call b) s.calls)) (sym eb) (calls_placed ws b s.calls (calls_all ws h.0.arguments CALLS 0 s.calls (let ac = t.calls_held.argument_count in omega arith) t.calls_held.the_calls));
+        calls = subst (λ (m : ℕ). Each (record { index = 0; impl = 0; starts = [] }) (λ k q. CallIs ws m (CALLS + 4 * k) q) (map (place_call b) s.calls)) (sym eb) (calls_placed ws b s.calls (calls_all ws h.0.listed.arguments CALLS 0 s.calls (let ac = t.calls_held.argument_count in omega arith) t.calls_held.the_calls));
         stack = bs.counted.operands.most_is;
         loops = bs.counted.loops.most_is;
         handlers = bs.counted.handlers.most_is;
-        flags = rw il (flags_final _ h.0.flags x.state.flags bs.bits_are);
-        float_loop = rw il (loop_final _ h.0.float_loop x.state.flags bs.float_loop_is);
+        flags = rw il (flags_final _ h.0.marks x.state.flags bs.bits_are);
+        float_loop = rw il (loop_final _ h.0.marks x.state.flags bs.float_loop_is);
       }
