@@ -17,7 +17,7 @@ use tree::Node;
 use workspace::words::{high, low};
 
 // A constant, by its bits.
-#[tactic(auto, unfolding(crate::specs::Pools::konst, crate::specs::Regions::interned))]
+#[tactic(auto, unfolding(crate::specs::Pools::konst))]
 pub(crate) fn konst(b: &mut Builder<'_>, bits: u32) -> ConstIdx
     ensures { Gave b.old b.new result.0 (konst bits) }
 {
@@ -25,7 +25,7 @@ pub(crate) fn konst(b: &mut Builder<'_>, bits: u32) -> ConstIdx
     ConstIdx(u32::from(i))
 }
 
-#[tactic(auto, unfolding(crate::specs::Pools::hash, crate::specs::Regions::interned))]
+#[tactic(auto, unfolding(crate::specs::Pools::hash))]
 pub(crate) fn hash(b: &mut Builder<'_>, h: u64) -> HashIdx
     ensures { Gave b.old b.new result.0 (hash h) }
 {
@@ -41,7 +41,7 @@ fn text_place(at: usize) -> u32
 }
 
 // A name, by its hash; the first text stays.
-#[tactic(auto, unfolding(crate::specs::Pools::name, crate::specs::Regions::interned))]
+#[tactic(auto, unfolding(crate::specs::Pools::name))]
 pub(crate) fn name(b: &mut Builder<'_>, n: NameRef) -> NameIdx
     ensures { Gave b.old b.new result.0 (name n) }
 {
@@ -51,7 +51,7 @@ pub(crate) fn name(b: &mut Builder<'_>, n: NameRef) -> NameIdx
 }
 
 // A member, by its own hash and the last one of its path.
-#[tactic(auto, unfolding(crate::specs::Pools::member, crate::specs::Regions::interned))]
+#[tactic(auto, unfolding(crate::specs::Pools::member))]
 pub(crate) fn member(b: &mut Builder<'_>, own: NameRef, last: NameRef) -> MemberIdx
     ensures { Gave b.old b.new result.0 (member own last) }
 {
@@ -68,7 +68,7 @@ pub(crate) fn member(b: &mut Builder<'_>, own: NameRef, last: NameRef) -> Member
 }
 
 // The slot of a temp, by its name.
-#[tactic(auto, unfolding(crate::specs::Pools::slot, crate::specs::Regions::interned))]
+#[tactic(auto, unfolding(crate::specs::Pools::slot))]
 fn slot(b: &mut Builder<'_>, named: NameIdx) -> TempIdx
     ensures { Gave b.old b.new result.0 (slot named.0) }
 {
@@ -85,7 +85,7 @@ pub(crate) fn is_identity(p: PostOp, bits: PostBits) -> bool
 }
 
 // A post, looked up by its bit patterns, which go beside it since no float keeps a NaN's; the identity is slot 0 and is not looked up.
-#[tactic(auto, unfolding(crate::specs::Pools::post, crate::specs::Regions::interned))]
+#[tactic(auto, unfolding(crate::specs::Pools::post))]
 pub(crate) fn post_of(b: &mut Builder<'_>, p: PostOp, bits: PostBits) -> PostIdx
     requires { p ≡ post_of (patterns bits) }
     ensures { Gave b.old b.new result.0 (post (patterns bits)) }

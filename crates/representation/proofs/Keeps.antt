@@ -1,21 +1,20 @@
 -- Tables of the workspace where words of other regions have changed. Assumes nothing.
 use Rattle.std.proofs.Common.{rules, ◌≡◌, subst, ◌∙◌, Bool, List, [], ◌∷◌, ℕ, zero, suc, ◌+◌, ◌*◌, ◌≤◌, ◌<◌, arith, length, get_or, length-append}
 use mathlib.Core.Option.{Option, some, none}
-use Rattle.ast.specs.Tree.{Name}
-use Rattle.numeric.specs.Post.{Post}
 use Rattle.program.specs.Instruction.{Instruction}
 use Rattle.program.specs.Program.{MemberStore}
-use Rattle.semantics.specs.State.{Item, CallInfo, MemberRead, set_segments, set_calls, set_stores}
+use Rattle.semantics.specs.State.{Item, CallInfo, Pools, set_segments, set_calls, set_stores}
 use Rattle.semantics.specs.Link.{place_segments}
 use Rattle.semantics.proofs.Costs.{weigh}
 use Rattle.semantics.proofs.Sizes.{weigh_length}
-use Rattle.workspace.specs.Layout.{OPEN, FINISHED, CONSTS, POSTS, HASHES, NAMES, TEMPS, MEMBERS, STORES, PATHS, CALLS, ARGUMENTS}
+use Rattle.workspace.specs.Layout.{OPEN, FINISHED, CONSTS, STORES, PATHS, CALLS, ARGUMENTS}
 use Rattle.workspace.specs.declared.counts.Pools as N
 use Rattle.workspace.specs.declared.counts.Listed.{Listed}
 use Rattle.builder.specs.declared.OpenCode.{OpenCode}
 use Rattle.card.specs.Holds.{PostIs, HashIs, TextIs, NameIs}
+use Rattle.std.proofs.Math.Nat.{mul-le-mul_left}
 use Rattle.representation.proofs.Rows.{Rows, Local, Agree, Apart}
-use Rattle.representation.proofs.Represents.{CodeHeld, ListsHeld, PoolsHeld, StoresHeld, CallsHeld, ItemAt, InstructionAt, WordAt, MemberAt, StoreAt, places, first_place, Filled, CallsFrom, OpenCall, OpenCallAt, OpenCalls, Abs, Fits, finished_code, Table, Tables}
+use Rattle.representation.proofs.Represents.{Pooled, consts, posts, hashes, names, temps, members, row, PoolHeld, PoolsHeld, pool_held, all_held, CodeHeld, StoresHeld, CallsHeld, ItemAt, InstructionAt, WordAt, MemberAt, StoreAt, places, first_place, Filled, CallsFrom, OpenCall, OpenCallAt, OpenCalls, Abs, Fits, finished_code, Table, Tables}
 
 -- what lies before the changed words, or behind them, is as it was
 pub agree_below : {ws vs : List ℕ} {lo hi : ℕ} → Apart ws vs lo hi → {o e : ℕ} → e ≤ lo → Agree ws vs o e
@@ -135,6 +134,39 @@ module _ (ws vs : List ℕ) where
         open_keep hi is os o.number (omega arith) c g a h.2,
       )
 
+-- ---- a pool that is interned, within its region
+
+module _ (tree : List ℕ) where
+  -- a claim on an entry looks at its own words
+  pub entries : (i : Pooled) → Local (row tree i).region.width (row tree i).At
+  entries consts = word_local
+  entries posts = post_local
+  entries hashes = hash_local
+  entries names = name_local tree
+  entries temps = word_local
+  entries members = member_local tree
+
+  abbrev pub end_of : Pooled → ℕ
+  end_of i = let r = (row tree i).region in r.from + r.width * r.room
+
+  pub pool_inside : (i : Pooled) → (CONSTS ≤ (row tree i).region.from) × (end_of i ≤ STORES)
+  pool_inside consts = (omega arith, omega arith)
+  pool_inside i = (omega arith, omega arith)
+
+  pub pool_fits : (i : Pooled) (A : Abs) → Fits A → length ((row tree i).pool.get A.state.pools) ≤ (row tree i).region.room
+  pool_fits consts A f = f.consts
+  pool_fits posts A f = f.posts
+  pool_fits hashes A f = f.hashes
+  pool_fits names A f = f.names
+  pool_fits temps A f = f.temps
+  pool_fits members A f = f.members
+
+  pub pool_keep : (ws vs : List ℕ) (A : Abs) → Fits A → (i : Pooled) → Agree ws vs (row tree i).region.from (end_of i) → (n : N.Pools) → PoolHeld tree ws n A.state.pools i → PoolHeld tree vs n A.state.pools i
+  pool_keep ws vs A f i g n t =
+      let r = row tree i in
+      let b = mul-le-mul_left r.region.width (pool_fits i A f) in
+      table_keep r.region.width r.At (entries i) ws vs r.region.from (r.region.count n) (r.pool.get A.state.pools) (end_of i) (omega arith) g t
+
 -- ---- groups of tables whose words are as they were
 
 module _ (tree ws vs : List ℕ) (A : Abs) (f : Fits A) where
@@ -149,14 +181,10 @@ module _ (tree ws vs : List ℕ) (A : Abs) (f : Fits A) where
       }
 
   pub pools_held_keep : Agree ws vs CONSTS STORES → {n : N.Pools} → PoolsHeld tree ws n A.state.pools → PoolsHeld tree vs n A.state.pools
-  pools_held_keep g t = record {
-    the_consts = table_keep 1 WordAt word_local ws vs CONSTS _ _ POSTS (omega (arith, f.consts)) (λ j x y. g j x (omega arith)) t.the_consts;
-    the_posts = table_keep 2 PostIs post_local ws vs POSTS _ _ HASHES (omega (arith, f.posts)) (λ j x y. g j (omega arith) (omega arith)) t.the_posts;
-    the_hashes = table_keep 2 HashIs hash_local ws vs HASHES _ _ NAMES (omega (arith, f.hashes)) (λ j x y. g j (omega arith) (omega arith)) t.the_hashes;
-    the_names = table_keep 3 (NameIs tree) (name_local tree) ws vs NAMES _ _ TEMPS (omega (arith, f.names)) (λ j x y. g j (omega arith) (omega arith)) t.the_names;
-    the_temps = table_keep 1 WordAt word_local ws vs TEMPS _ _ MEMBERS (omega (arith, f.temps)) (λ j x y. g j (omega arith) (omega arith)) t.the_temps;
-    the_members = table_keep 6 (MemberAt tree) (member_local tree) ws vs MEMBERS _ _ STORES (omega (arith, f.members)) (λ j x y. g j (omega arith) y) t.the_members;
-  }
+  pools_held_keep g {n} t =
+      all_held tree vs n A.state.pools λ i.
+      let b = pool_inside tree i in
+      pool_keep tree ws vs A f i (λ j x y. g j (omega arith) (omega arith)) n (pool_held tree ws n A.state.pools t i)
 
   pub stores_held_keep : Agree ws vs STORES CALLS → {stores paths : ℕ} → StoresHeld ws stores paths A.state.pools.stores → StoresHeld vs stores paths A.state.pools.stores
   stores_held_keep g {stores} {paths} t =
@@ -183,11 +211,10 @@ calls_held_keep ws vs a l {calls} {arguments} {is} {os} t = record {
 
 module _ (tree ws vs : List ℕ) (A : Abs) (f : Fits A) {n : N.Pools} {l : Listed} {s : OpenCode} where
   -- words of the pools have changed: new tables for those; the code, the stores and the calls are as they were
-  pub pools_changed : Apart ws vs CONSTS STORES → Tables tree ws n l s A.outer A.code A.wait A.open_calls A.state.pools →
-      {m : N.Pools} {cs : List ℕ} {ps : List Post} {hs : List ℕ} {ns : List Name} {ts : List ℕ} {ms : List MemberRead} → ListsHeld tree vs m cs ps hs ns ts ms →
+  pub pools_changed : Apart ws vs CONSTS STORES → Tables tree ws n l s A.outer A.code A.wait A.open_calls A.state.pools → {m : N.Pools} (Q : Pools) → PoolsHeld tree vs m Q →
       Tables tree vs m l s A.outer A.code A.wait A.open_calls
-      (record A.state.pools { consts = cs; posts = ps; hashes = hs; names = ns; temps = ts; members = ms })
-  pools_changed a t p = record {
+      (record A.state.pools { consts = Q.consts; posts = Q.posts; hashes = Q.hashes; names = Q.names; temps = Q.temps; members = Q.members })
+  pools_changed a t Q p = record {
     code_held = code_held_keep tree ws vs A f (agree_below a (omega arith)) t.code_held;
     pools_held = p;
     stores_held = stores_held_keep tree ws vs A f (agree_above a (omega arith)) t.stores_held;

@@ -11,16 +11,18 @@ use Rattle.depth.specs.declared.Depth.{Depth}
 use Rattle.semantics.specs.Positions.{past}
 use Rattle.semantics.specs.Regions.{path_entries}
 use Rattle.semantics.specs.State.{Item, instr, to_cleanup, to_check, CallInfo, MemberRead, Pools, Flags, State}
+use Rattle.semantics.specs.Pieces as P
 use Rattle.semantics.specs.Pieces.{Lowering}
 use Rattle.semantics.specs.Link.{place_segments, member_entry, offsets_of}
 use Rattle.code.specs.Segments.{BREAK, CONTINUE}
-use Rattle.workspace.specs.Layout.{OPEN, FINISHED, CONSTS, POSTS, HASHES, NAMES, TEMPS, MEMBERS, STORES, CALLS, ARGUMENTS}
+use Rattle.workspace.specs.Layout.{OPEN, FINISHED, STORES, CALLS, ARGUMENTS}
 use Rattle.card.specs.Holds.{PostIs, HashIs, NameIs, MemberIs, StoreIs}
 use Rattle.workspace.specs.declared.counts.Pools as N
 use Rattle.workspace.specs.declared.counts.Listed.{Listed}
 use Rattle.builder.specs.declared.OpenCode.{OpenCode}
 use Rattle.builder.specs.declared.Marks.{Marks}
 use Rattle.lowering.specs.Held.{Held}
+use Rattle.lowering.specs.Pools as B
 use Rattle.lowering.specs.Pools.{Found}
 use Rattle.lowering.specs.Parts.{Step, front}
 use Rattle.representation.proofs.Rows.{Rows}
@@ -158,17 +160,47 @@ pub record CodeHeld (ws : List ℕ) (s : OpenCode) (outer code : List Item) (wai
   pub the_finished_code : Table 2 (InstructionAt ws) FINISHED s.finished closed
   pub waiting_is : s.waiting ≡ wait
 
--- the six pools that are interned, by their lists, and as those of all pools
-pub record ListsHeld (tree ws : List ℕ) (n : N.Pools) (cs : List ℕ) (ps : List Post) (hs : List ℕ) (ns : List Name) (ts : List ℕ) (ms : List MemberRead) : Type 0 where
-  pub the_consts : Table 1 (WordAt ws) CONSTS n.consts cs
-  pub the_posts : Table 2 (PostIs ws) POSTS n.posts ps
-  pub the_hashes : Table 2 (HashIs ws) HASHES n.hashes hs
-  pub the_names : Table 3 (NameIs tree ws) NAMES n.names ns
-  pub the_temps : Table 1 (WordAt ws) TEMPS n.temps ts
-  pub the_members : Table 6 (MemberAt tree ws) MEMBERS n.members ms
+-- ---- the pools that are interned
 
-abbrev pub PoolsHeld : List ℕ → List ℕ → N.Pools → Pools → Type 0
-PoolsHeld tree ws n P = ListsHeld tree ws n P.consts P.posts P.hashes P.names P.temps P.members
+pub data Pooled : Type 0 where
+  consts posts hashes names temps members : Pooled
+
+-- a pool's region, its list with its keys, and what words say of an entry
+pub record Row (tree : List ℕ) : Type 1 where
+  pub Entry : Type 0
+  pub Key : Type 0
+  pub region : B.Pool
+  pub pool : P.Pool Entry Key
+  pub At : List ℕ → ℕ → Entry → Type 0
+
+abbrev pub row : (tree : List ℕ) → Pooled → Row tree
+row tree consts = record { Entry = ℕ; Key = ℕ; region = B.const_pool; pool = P.const_pool; At = WordAt }
+row tree posts = record { Entry = Post; Key = ℕ × ℕ; region = B.post_pool; pool = P.post_pool; At = PostIs }
+row tree hashes = record { Entry = ℕ; Key = ℕ; region = B.hash_pool; pool = P.hash_pool; At = HashIs }
+row tree names = record { Entry = Name; Key = ℕ; region = B.name_pool; pool = P.name_pool; At = NameIs tree }
+row tree temps = record { Entry = ℕ; Key = ℕ; region = B.slot_pool; pool = P.slot_pool; At = WordAt }
+row tree members = record { Entry = MemberRead; Key = ℕ × ℕ; region = B.member_pool; pool = P.member_pool; At = MemberAt tree }
+
+module _ (tree ws : List ℕ) (n : N.Pools) (Q : Pools) where
+  abbrev pub PoolHeld : Pooled → Type 0
+  PoolHeld i = let r = row tree i in Table r.region.width (r.At ws) r.region.from (r.region.count n) (r.pool.get Q)
+
+  -- a product, so that a step that changes none of the lists leaves it as it is
+  abbrev pub PoolsHeld : Type 0
+  PoolsHeld = PoolHeld consts × PoolHeld posts × PoolHeld hashes × PoolHeld names × PoolHeld temps × PoolHeld members
+
+  abbrev pub pool_held : PoolsHeld → (i : Pooled) → PoolHeld i
+  pool_held h consts = h.0
+  pool_held h posts = h.1
+  pool_held h hashes = h.2
+  pool_held h names = h.3
+  pool_held h temps = h.4
+  pool_held h members = h.5
+
+  abbrev pub all_held : ((i : Pooled) → PoolHeld i) → PoolsHeld
+  all_held h = (h consts, h posts, h hashes, h names, h temps, h members)
+
+-- ---- the other regions
 
 pub record StoresHeld (ws : List ℕ) (stores paths : ℕ) (xs : List MemberStore) : Type 0 where
   pub the_stores : Table 4 (StoreAt paths ws) STORES stores xs

@@ -37,7 +37,7 @@ use Rattle.lowering.specs.Parts as L
 use Rattle.lowering.specs.Rules as R
 use Rattle.representation.specs.Sections.{in_loop, final_marks, sections_of}
 use Rattle.representation.proofs.Rows.{Rows}
-use Rattle.representation.proofs.Represents.{ItemAt, InstructionAt, WordAt, MemberAt, places, first_place, Filled, CallsFrom, filled, Abs, Fits, Table, Counter, Content, Does}
+use Rattle.representation.proofs.Represents.{consts, posts, hashes, names, temps, members, pool_held, ItemAt, InstructionAt, WordAt, MemberAt, places, first_place, Filled, CallsFrom, filled, Abs, Fits, Table, Counter, Content, Does}
 use Rattle.representation.proofs.Pools.{rows_at}
 use Rattle.representation.proofs.Laws.{thens}
 use Rattle.representation.proofs.Targets.{mk, aim_at}
@@ -231,7 +231,7 @@ begins tree words h = record {
       the_finished_code = no_entries;
       waiting_is = refl;
     };
-    pools_held = record { the_consts = no_entries; the_posts = no_entries; the_hashes = no_entries; the_names = no_entries; the_temps = no_entries; the_members = no_entries };
+    pools_held = (no_entries, no_entries, no_entries, no_entries, no_entries, no_entries);
     stores_held = record { the_stores = no_entries; path_count = refl };
     calls_held = record { call_count = refl; the_calls = omega arith; the_open = tt; argument_count = refl };
   };
@@ -289,7 +289,7 @@ module _ (tree words : List ℕ) (small : Bytes tree) (passed : questions tree �
   -- the flags
   in_a_loop : in_loop (R.lowered tree words).0 ≡ in_float_loop x.state.deepest.operands x.state.deepest.loops x.state.deepest.handlers (length x.state.pools.temps)
   unfolding in_loop
-  in_a_loop = let b = content.beside in let t = content.tables.pools_held.the_temps.count in rw (b.counted.operands.most_is, b.counted.loops.most_is, b.counted.handlers.most_is, t)
+  in_a_loop = let b = content.beside in let t = (pool_held tree (R.lowered tree words).1 (R.lowered tree words).0.pools x.state.pools content.tables.pools_held temps).count in rw (b.counted.operands.most_is, b.counted.loops.most_is, b.counted.handlers.most_is, t)
 
   pub holds : Holds tree (R.lowered tree words).1 (sections_of (R.lowered tree words).0) (program (settings tree) (parse tree))
   unfolding sections_of program link final_flags
@@ -311,6 +311,7 @@ module _ (tree words : List ℕ) (small : Bytes tree) (passed : questions tree �
       let fitf = subst (λ (l : List Instruction). Every FitInstruction l) ps (every_right FitInstruction (map (settle 0 0 0) x.code) (place_segments s.segments b) fit) in
       let lf = length-map (place_segments s.segments 0) (relocate b) in
       let il = in_a_loop in
+      let held = pool_held tree ws h.0.pools s t.pools_held in
       record {
         main = map (settle 0 0 0) x.code;
         finished = map (relocate b) (place_segments s.segments 0);
@@ -319,20 +320,20 @@ module _ (tree words : List ℕ) (small : Bytes tree) (passed : questions tree �
         main_is = main_is ws x.code t.code_held.open_code.rows fitm;
         finished_count = omega arith;
         finished_is = subst (λ (m : ℕ). Each halt (λ k i. InstructionIs ws m (FINISHED + 2 * k) i) (map (relocate b) (place_segments s.segments 0))) (sym eb) (finished_is ws b (place_segments s.segments 0) t.code_held.the_finished_code.rows fitf);
-        consts_count = sym t.pools_held.the_consts.count;
-        consts = λ k l. let v = each_rows 1 (WordAt ws) CONSTS s.consts 0 t.pools_held.the_consts.rows k l in let q : CONSTS + 1 * k ≡ CONSTS + k = omega arith in let v' = ap (λ (j : ℕ). get_or ws j 0) (sym q) ∙ v in omega (arith, v');
+        consts_count = sym (held consts).count;
+        consts = λ k l. let v = each_rows 1 (WordAt ws) CONSTS s.consts 0 (held consts).rows k l in let q : CONSTS + 1 * k ≡ CONSTS + k = omega arith in let v' = ap (λ (j : ℕ). get_or ws j 0) (sym q) ∙ v in omega (arith, v');
         further = s.posts;
         posts = refl;
-        posts_count = sym t.pools_held.the_posts.count;
-        posts_are = each_rows 2 _ POSTS s.posts identity t.pools_held.the_posts.rows;
-        hashes_count = sym t.pools_held.the_hashes.count;
-        hashes = each_rows 2 _ HASHES s.hashes 0 t.pools_held.the_hashes.rows;
-        names_count = sym t.pools_held.the_names.count;
-        names = each_rows 3 _ NAMES s.names _ t.pools_held.the_names.rows;
-        temps_count = sym t.pools_held.the_temps.count;
-        temps = λ k l. let q : TEMPS + 1 * k ≡ TEMPS + k = omega arith in ap (λ (j : ℕ). get_or ws j 0) (sym q) ∙ each_rows 1 (WordAt ws) TEMPS s.temps 0 t.pools_held.the_temps.rows k l;
-        members_count = length-map s.members member_entry ∙ sym t.pools_held.the_members.count;
-        members = members_held ws s.members t.pools_held.the_members.rows;
+        posts_count = sym (held posts).count;
+        posts_are = each_rows 2 _ POSTS s.posts identity (held posts).rows;
+        hashes_count = sym (held hashes).count;
+        hashes = each_rows 2 _ HASHES s.hashes 0 (held hashes).rows;
+        names_count = sym (held names).count;
+        names = each_rows 3 _ NAMES s.names _ (held names).rows;
+        temps_count = sym (held temps).count;
+        temps = λ k l. let q : TEMPS + 1 * k ≡ TEMPS + k = omega arith in ap (λ (j : ℕ). get_or ws j 0) (sym q) ∙ each_rows 1 (WordAt ws) TEMPS s.temps 0 (held temps).rows k l;
+        members_count = length-map s.members member_entry ∙ sym (held members).count;
+        members = members_held ws s.members (held members).rows;
         stores_count = sym t.stores_held.the_stores.count;
         stores = λ k l. (each_rows 4 _ STORES s.stores _ t.stores_held.the_stores.rows k l).0;
         calls_count = length-map s.calls (place_call b) ∙ sym t.calls_held.call_count;
