@@ -18,7 +18,7 @@ use Rattle.card.specs.declared.Sections.{Sections}
 use Rattle.workspace.specs.Layout.{OPEN, FINISHED, CONSTS, POSTS, HASHES, NAMES, TEMPS, MEMBERS, STORES, PATHS, CALLS, ARGUMENTS}
 use Rattle.card.specs.Written.{cat, joined}
 use Rattle.workspace.specs.Words.{plus}
-use Rattle.card.specs.Image.{word_entry, half_entry, instruction_bytes, instruction_entry, dotted_bytes, text_bytes, hash_bytes, name_bytes, name_entry, member_bytes, member_entry, store_bytes, store_at, store_entry, call_bytes, call_at, call_entry, code_section, consts_section, posts_section, hashes_section, names_section, temps_section, members_section, stores_section, calls_section, closing_bytes, sections_of, body_of, image_of}
+use Rattle.card.specs.Image.{word_entry, half_entry, instruction_bytes, instruction_entry, const_entry, dotted_bytes, text_bytes, hash_bytes, name_bytes, name_entry, member_bytes, member_entry, store_bytes, store_at, store_entry, call_bytes, call_at, call_entry, code_section, consts_section, posts_section, hashes_section, names_section, temps_section, members_section, stores_section, calls_section, closing_bytes, sections_of, body_of, image_of}
 use Rattle.card.specs.Holds.{Each, InstructionIs, NameIs, MemberIs, root_kind, StoreIs, CallIs, Holds}
 use Rattle.card.proofs.Shown.{number, every_at, counted, words_are, posts_are, hash_is, hashes_are, text_is, dotted_is}
 
@@ -130,7 +130,9 @@ module _ (tree ws : List ℕ) (c : Sections) (P : Program) (q : Holds tree ws c 
 
   consts_are : (r : List ℕ) → list (be 4) 4 P.consts r ≡ consts_section ws c.pools.consts ++ r
   unfolding consts_section
-  consts_are r = section (be 4) P.consts _ r q.consts_count (words_are ws CONSTS 0 P.consts q.consts_count q.consts h.consts.each r)
+  consts_are r =
+      section (be 4) P.consts _ r q.consts_count
+      (counted (be 4) 0 P.consts (const_entry ws) q.consts_count (λ k l s. number 4 (get_or P.consts k 0) s ∙ ap (λ v. be 4 v [] ++ s) (sym (q.consts k l))) r)
 
   all_posts : (r : List ℕ) → list put_post 4 P.posts r ≡ posts_section ws c.pools.posts ++ r
   unfolding posts_section put_post entries

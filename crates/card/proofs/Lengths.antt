@@ -10,7 +10,7 @@ use Rattle.card.specs.declared.Sections.{Sections}
 use Rattle.workspace.specs.Layout.{TEMPS}
 use Rattle.card.specs.Written.{cat}
 pub use Rattle.card.proofs.Join.{run_length, field_length, no_entries, entry_more}
-use Rattle.card.specs.Image.{word_entry, half_entry, byte_entry, instruction_bytes, instruction_entry, code_section, consts_section, posts_section, hashes_section, temps_section, closing_bytes}
+use Rattle.card.specs.Image.{word_entry, half_entry, byte_entry, instruction_bytes, instruction_entry, const_entry, code_section, consts_section, posts_section, hashes_section, temps_section, closing_bytes}
 
 -- entries of one size
 alike : (f : ℕ → List ℕ) (k n : ℕ) → ((i : ℕ) → length (f i) ≡ k) → length (cat f n) ≡ k * n
@@ -46,7 +46,7 @@ code ws n m = simp (length-append, field_length, instructions) (omega arith)
 
 pub consts : (ws : List ℕ) (n : ℕ) → length (consts_section ws n) ≡ 4 + 4 * n
 unfolding consts_section
-consts ws n = simp (length-append, field_length, words)
+consts ws n = let h : length (cat (const_entry ws) n) ≡ 4 * n = alike _ 4 n (λ i. field_length 4 _) in simp (length-append, field_length) (omega arith)
 
 pub posts : (ws : List ℕ) (n : ℕ) → length (posts_section ws n) ≡ 4 + 8 * (n + 1)
 unfolding posts_section

@@ -83,7 +83,7 @@ pub record Holds (tree ws : List ℕ) (c : Sections) (P : Program) : Type 0 wher
   pub finished_count : length finished ≡ c.finished
   pub finished_is : Each halt (λ k i. InstructionIs ws c.code (FINISHED + 2 * k) i) finished
   pub consts_count : length P.consts ≡ c.pools.consts
-  pub consts : WordsAre ws CONSTS 0 P.consts
+  pub consts : Each 0 (λ k v. get_or ws (CONSTS + 2 * k) 0 ≡ v) P.consts
   pub further : List Post
   pub posts : P.posts ≡ identity ∷ further
   pub posts_count : length further ≡ c.pools.posts

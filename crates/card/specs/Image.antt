@@ -29,6 +29,10 @@ instruction_bytes base w a = be 1 (w / 16777216) [] ++ be 1 (w / 65536 % 256) []
 abbrev pub instruction_entry : List ℕ → ℕ → ℕ → ℕ → List ℕ
 instruction_entry ws from base k = instruction_bytes base (get_or ws (from + 2 * k) 0) (get_or ws (from + 2 * k + 1) 0)
 
+-- 01, The program image: "consts (4)": the first of a constant's two words
+abbrev pub const_entry : List ℕ → ℕ → List ℕ
+const_entry ws k = be 4 (get_or ws (CONSTS + 2 * k) 0) []
+
 -- 01, The program image: "A text has a 2-byte length": the tree image's text whose length byte stands at o, as it is and with a dot
 unfoldable pub text_bytes : List ℕ → ℕ → List ℕ
 text_bytes tree o = be 2 (be8 tree o 0) [] ++ cat (byte_entry tree (o + 1)) (be8 tree o 0)
@@ -83,7 +87,7 @@ unfoldable pub code_section : List ℕ → ℕ → ℕ → List ℕ
 code_section ws n m = be 4 (n + m) [] ++ cat (instruction_entry ws OPEN 0) n ++ cat (instruction_entry ws FINISHED n) m
 
 unfoldable pub consts_section : List ℕ → ℕ → List ℕ
-consts_section ws n = be 4 n [] ++ cat (word_entry ws CONSTS 0) n
+consts_section ws n = be 4 n [] ++ cat (const_entry ws) n
 
 unfoldable pub posts_section : List ℕ → ℕ → List ℕ
 posts_section ws n = be 4 (n + 1) [] ++ be 4 identity.scale [] ++ be 4 identity.offset [] ++ cat (word_entry ws POSTS 0) (2 * n)

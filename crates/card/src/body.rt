@@ -9,7 +9,7 @@ ghost use Rattle.card.specs.Image.{code_section, posts_section, hashes_section, 
 ghost use Rattle.card.specs.Starts.{sums_of, closing_start, start_from_back};
 ghost use Rattle.card.specs.Lowered.{of_parts};
 
-use crate::entries::{Calls, Instructions, Members, Names, Stores, Temps};
+use crate::entries::{Calls, Consts, Instructions, Members, Names, Stores, Temps};
 use crate::fields::{Entries, Words, Writer};
 use crate::measure::Sums;
 use crate::{Lowered, Sections};
@@ -103,11 +103,6 @@ impl Lowered<'_> {
             (of_parts body_of self.entry) w.new.out.now (length (of_parts image_of self.entry)) }
     {
         let (ws, c) = (self.ws, self.sections);
-        let consts = Words {
-            ws,
-            from: layout::CONSTS,
-            base: 0,
-        };
         w.at = closing;
         w.closing(c);
         w.at = closing - s.calls;
@@ -125,7 +120,7 @@ impl Lowered<'_> {
         w.at = closing - s.posts;
         w.posts(ws, c.pools.posts);
         w.at = closing - s.consts;
-        w.section(&consts, c.pools.consts);
+        w.section(&Consts(self), c.pools.consts);
         w.at = closing - s.code;
         w.code(ws, c.code, c.finished);
     }

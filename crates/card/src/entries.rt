@@ -9,6 +9,7 @@ ghost use Rattle.card.specs.Puts.{Room, Puts};
 ghost use Rattle.card.specs.Image.{
   instruction_bytes,
   instruction_entry,
+  const_entry,
   text_bytes,
   dotted_bytes,
   hash_bytes,
@@ -67,6 +68,21 @@ impl Entries for Run<'_, 2> {
         let w = word(self.ws, self.from + 2 * i);
         let a = word(self.ws, self.from + 2 * i + 1);
         put_instruction(w, a, self.base, out);
+    }
+}
+
+// A constant: the first of its two words.
+#[derive(Drop)]
+pub(crate) struct Consts<'a>(pub(crate) Lowered<'a>);
+
+impl Entries for Consts<'_> {
+    ghost bytes_of = { λ s. const_entry s.0.ws.now };
+
+    ghost most = { 4 };
+
+    fn put(&self, i: usize, out: &mut Writer<'_>) {
+        let w = word(self.0.ws, layout::CONSTS + 2 * i);
+        out.put(w);
     }
 }
 

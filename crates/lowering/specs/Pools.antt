@@ -43,9 +43,13 @@ interned pool entry h =
       interned_words k n pool.room h.1 (pool.from + pool.width * n) entry,
     )
 
--- 01, Modules, pools.rs: "consts by bits"
+-- the mark behind a constant's bits where all places with these bits share the entry, as they all do
+abbrev pub SHARED : ℕ
+SHARED = 0
+
+-- 01, Modules, pools.rs: "consts by bits", and by the mark behind them
 abbrev pub const_pool : Pool
-const_pool = record { count = λ p. p.consts; set_count = λ n p. record p { consts = n }; from = CONSTS; room = CONSTS_ROOM; width = 1; key = 1 }
+const_pool = record { count = λ p. p.consts; set_count = λ n p. record p { consts = n }; from = CONSTS; room = CONSTS_ROOM; width = 2; key = 2 }
 
 -- "posts by both bit patterns"
 abbrev pub post_pool : Pool
@@ -71,7 +75,7 @@ abbrev pub text_place : ℕ → ℕ
 text_place at = (at - 1) % 4294967296
 
 unfoldable pub konst : ℕ → Held → Found
-konst bits = interned const_pool (bits ∷ [])
+konst bits = interned const_pool (bits ∷ SHARED ∷ [])
 
 unfoldable pub hash : ℕ → Held → Found
 hash v = interned hash_pool (high v ∷ low v ∷ [])

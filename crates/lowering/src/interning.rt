@@ -16,12 +16,15 @@ use program::{ConstIdx, Flags, HashIdx, MemberIdx, NameIdx, PostIdx, TempIdx};
 use tree::Node;
 use workspace::words::{high, low};
 
-// A constant, by its bits.
+// The mark behind a constant's bits where all places with these bits share the entry, as they all do.
+const SHARED: u32 = 0;
+
+// A constant, by its bits and the mark.
 #[tactic(auto, unfolding(crate::specs::Pools::konst))]
 pub(crate) fn konst(b: &mut Builder<'_>, bits: u32) -> ConstIdx
     ensures { Gave b.old b.new result.0 (konst bits) }
 {
-    let i = regions::CONSTS.intern(b.words, &mut b.state.pools.consts, &[bits]);
+    let i = regions::CONSTS.intern(b.words, &mut b.state.pools.consts, &[bits, SHARED]);
     ConstIdx(u32::from(i))
 }
 

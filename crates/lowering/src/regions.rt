@@ -14,7 +14,8 @@ pub(crate) struct Region<const WIDTH: usize, const KEY: usize> {
     ghost within: { KEY ≤ WIDTH },
 }
 
-pub(crate) const CONSTS: Region<1, 1> = Region {
+// Bits and mark are the key.
+pub(crate) const CONSTS: Region<2, 2> = Region {
     from: layout::CONSTS,
     room: layout::CONSTS_ROOM,
 };

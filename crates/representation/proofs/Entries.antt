@@ -8,7 +8,7 @@ use Rattle.semantics.specs.Link.{member_entry}
 use Rattle.card.specs.Holds.{TextIs}
 use Rattle.lowering.proofs.Hits.{Stand}
 use Rattle.workspace.specs.Words.{high, low}
-use Rattle.lowering.specs.Pools.{text_place}
+use Rattle.lowering.specs.Pools.{SHARED, text_place}
 use Rattle.representation.proofs.Represents.{Pooled, consts, posts, hashes, names, temps, members, row}
 
 -- ---- equal keys
@@ -34,12 +34,12 @@ first_stored : (us : List ℕ) (p v : ℕ) → get_or us (p + 0) 0 ≡ v → get
 first_stored us p v q = let e : p + 0 ≡ p = omega arith in subst (λ (n : ℕ). get_or us n 0 ≡ v) e q
 
 module _ (tree : List ℕ) where
-  pub const_keyed : (v : ℕ) → Keyed tree consts v (v ∷ [])
+  pub const_keyed : (v : ℕ) → Keyed tree consts v (v ∷ SHARED ∷ [])
   const_keyed v = record {
     size = refl;
-    stored = λ us p s. first_stored us p v (s 0 (omega arith));
-    found = λ us p x q s. sym q ∙ s.0;
-    stands = λ us p x q e. (q ∙ e, tt);
+    stored = λ us p s. (first_stored us p v (s 0 (omega arith)), s 1 (omega arith));
+    found = λ us p x q s. sym q.0 ∙ s.0;
+    stands = λ us p x q e. (q.0 ∙ e, (q.1, tt));
   }
 
   pub slot_keyed : (v : ℕ) → Keyed tree temps v (v ∷ [])

@@ -14,7 +14,7 @@ use Rattle.builder.specs.declared.OpenCode.{OpenCode}
 use Rattle.card.specs.Holds.{PostIs, HashIs, TextIs, NameIs}
 use Rattle.std.proofs.Math.Nat.{mul-le-mul_left}
 use Rattle.representation.proofs.Rows.{Rows, Local, Agree, Apart}
-use Rattle.representation.proofs.Represents.{Pooled, consts, posts, hashes, names, temps, members, row, PoolHeld, PoolsHeld, pool_held, all_held, CodeHeld, StoresHeld, CallsHeld, ItemAt, InstructionAt, WordAt, MemberAt, StoreAt, places, first_place, Filled, CallsFrom, OpenCall, OpenCallAt, OpenCalls, Abs, Fits, finished_code, Table, Tables}
+use Rattle.representation.proofs.Represents.{Pooled, consts, posts, hashes, names, temps, members, row, PoolHeld, PoolsHeld, pool_held, all_held, CodeHeld, StoresHeld, CallsHeld, ItemAt, InstructionAt, WordAt, ConstIs, MemberAt, StoreAt, places, first_place, Filled, CallsFrom, OpenCall, OpenCallAt, OpenCalls, Abs, Fits, finished_code, Table, Tables}
 
 -- what lies before the changed words, or behind them, is as it was
 pub agree_below : {ws vs : List ℕ} {lo hi : ℕ} → Apart ws vs lo hi → {o e : ℕ} → e ≤ lo → Agree ws vs o e
@@ -33,6 +33,9 @@ instruction_local ws vs p x g h = search rules
 
 pub word_local : Local 1 WordAt
 word_local ws vs p x g h = g p (omega arith) (omega arith) ∙ h
+
+pub const_local : Local 2 ConstIs
+const_local ws vs p x g h = search rules
 
 pub post_local : Local 2 PostIs
 post_local ws vs p x g h = search rules
@@ -139,7 +142,7 @@ module _ (ws vs : List ℕ) where
 module _ (tree : List ℕ) where
   -- a claim on an entry looks at its own words
   pub entries : (i : Pooled) → Local (row tree i).region.width (row tree i).At
-  entries consts = word_local
+  entries consts = const_local
   entries posts = post_local
   entries hashes = hash_local
   entries names = name_local tree

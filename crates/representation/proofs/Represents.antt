@@ -23,7 +23,7 @@ use Rattle.builder.specs.declared.OpenCode.{OpenCode}
 use Rattle.builder.specs.declared.Marks.{Marks}
 use Rattle.lowering.specs.Held.{Held}
 use Rattle.lowering.specs.Pools as B
-use Rattle.lowering.specs.Pools.{Found}
+use Rattle.lowering.specs.Pools.{SHARED, Found}
 use Rattle.lowering.specs.Parts.{Step, front}
 use Rattle.representation.proofs.Rows.{Rows}
 
@@ -51,6 +51,10 @@ InstructionAt ws p i = (get_or ws p 0 ≡ instruction_front i) × (get_or ws (p 
 
 abbrev pub WordAt : List ℕ → ℕ → ℕ → Type 0
 WordAt ws p v = get_or ws p 0 ≡ v
+
+-- a constant: its bits and the mark
+abbrev pub ConstIs : List ℕ → ℕ → ℕ → Type 0
+ConstIs ws p v = (get_or ws p 0 ≡ v) × (get_or ws (p + 1) 0 ≡ SHARED)
 
 -- a member, with the words of the last one's hash, which are part of its key
 abbrev pub MemberAt : List ℕ → List ℕ → ℕ → MemberRead → Type 0
@@ -174,7 +178,7 @@ pub record Row (tree : List ℕ) : Type 1 where
   pub At : List ℕ → ℕ → Entry → Type 0
 
 abbrev pub row : (tree : List ℕ) → Pooled → Row tree
-row tree consts = record { Entry = ℕ; Key = ℕ; region = B.const_pool; pool = P.const_pool; At = WordAt }
+row tree consts = record { Entry = ℕ; Key = ℕ; region = B.const_pool; pool = P.const_pool; At = ConstIs }
 row tree posts = record { Entry = Post; Key = ℕ × ℕ; region = B.post_pool; pool = P.post_pool; At = PostIs }
 row tree hashes = record { Entry = ℕ; Key = ℕ; region = B.hash_pool; pool = P.hash_pool; At = HashIs }
 row tree names = record { Entry = Name; Key = ℕ; region = B.name_pool; pool = P.name_pool; At = NameIs tree }

@@ -37,7 +37,7 @@ use Rattle.lowering.specs.Parts as L
 use Rattle.lowering.specs.Rules as R
 use Rattle.representation.specs.Sections.{in_loop, final_marks, sections_of}
 use Rattle.representation.proofs.Rows.{Rows}
-use Rattle.representation.proofs.Represents.{consts, posts, hashes, names, temps, members, pool_held, ItemAt, InstructionAt, WordAt, MemberAt, places, first_place, Filled, CallsFrom, filled, Abs, Fits, Table, Counter, Content, Does}
+use Rattle.representation.proofs.Represents.{consts, posts, hashes, names, temps, members, pool_held, ItemAt, InstructionAt, WordAt, ConstIs, MemberAt, places, first_place, Filled, CallsFrom, filled, Abs, Fits, Table, Counter, Content, Does}
 use Rattle.representation.proofs.Pools.{rows_at}
 use Rattle.representation.proofs.Laws.{thens}
 use Rattle.representation.proofs.Targets.{mk, aim_at}
@@ -321,7 +321,7 @@ module _ (tree words : List ℕ) (small : Bytes tree) (passed : questions tree �
         finished_count = omega arith;
         finished_is = subst (λ (m : ℕ). Each halt (λ k i. InstructionIs ws m (FINISHED + 2 * k) i) (map (relocate b) (place_segments s.segments 0))) (sym eb) (finished_is ws b (place_segments s.segments 0) t.code_held.the_finished_code.rows fitf);
         consts_count = sym (held consts).count;
-        consts = λ k l. let v = each_rows 1 (WordAt ws) CONSTS s.consts 0 (held consts).rows k l in let q : CONSTS + 1 * k ≡ CONSTS + k = omega arith in let v' = ap (λ (j : ℕ). get_or ws j 0) (sym q) ∙ v in omega (arith, v');
+        consts = λ k l. (each_rows 2 (ConstIs ws) CONSTS s.consts 0 (held consts).rows k l).0;
         further = s.posts;
         posts = refl;
         posts_count = sym (held posts).count;

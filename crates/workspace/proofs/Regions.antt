@@ -10,7 +10,7 @@ abbrev ends : List ℕ
 ends =
     (L.OPEN + 2 * L.CODE_ROOM)
     ∷ (L.FINISHED + 2 * L.CODE_ROOM)
-    ∷ (L.CONSTS + 1 * L.CONSTS_ROOM)
+    ∷ (L.CONSTS + 2 * L.CONSTS_ROOM)
     ∷ (L.POSTS + 2 * L.POSTS_ROOM)
     ∷ (L.HASHES + 2 * L.HASHES_ROOM)
     ∷ (L.NAMES + 3 * L.NAMES_ROOM)

@@ -14,7 +14,7 @@ FINISHED = 4096
 abbrev pub CODE_ROOM : ℕ
 CODE_ROOM = 2048
 
--- constants: 1 word
+-- constants: 2 words, bits and mark
 abbrev pub CONSTS : ℕ
 CONSTS = 8192
 
@@ -23,63 +23,63 @@ CONSTS_ROOM = 384
 
 -- posts but slot 0: 2 words, scale and offset
 abbrev pub POSTS : ℕ
-POSTS = 8576
+POSTS = 8960
 
 abbrev pub POSTS_ROOM : ℕ
 POSTS_ROOM = 384
 
 -- hashes: 2 words, high and low
 abbrev pub HASHES : ℕ
-HASHES = 9344
+HASHES = 9728
 
 abbrev pub HASHES_ROOM : ℕ
 HASHES_ROOM = 384
 
 -- names: 3 words, the hash's two and the place of the text's length byte in the tree image
 abbrev pub NAMES : ℕ
-NAMES = 10112
+NAMES = 10496
 
 abbrev pub NAMES_ROOM : ℕ
 NAMES_ROOM = 256
 
 -- temps: 1 word, the name's index
 abbrev pub TEMPS : ℕ
-TEMPS = 10880
+TEMPS = 11264
 
 abbrev pub TEMPS_ROOM : ℕ
 TEMPS_ROOM = 256
 
 -- members: 6 words, the own hash's two, the last hash's two, and the places of both texts' length bytes
 abbrev pub MEMBERS : ℕ
-MEMBERS = 11136
+MEMBERS = 11520
 
 abbrev pub MEMBERS_ROOM : ℕ
 MEMBERS_ROOM = 256
 
 -- stores: 4 words, the root's kind, its index, the first path entry and their count
 abbrev pub STORES : ℕ
-STORES = 12672
+STORES = 13056
 
 abbrev pub STORES_ROOM : ℕ
 STORES_ROOM = 192
 
 -- the stores' paths: 2 words, a hash
 abbrev pub PATHS : ℕ
-PATHS = 13440
+PATHS = 13824
 
 abbrev pub PATHS_ROOM : ℕ
 PATHS_ROOM = 256
 
 -- calls: 4 words, the index, impl_idx, the argument count and the first argument
 abbrev pub CALLS : ℕ
-CALLS = 13952
+CALLS = 14336
 
 abbrev pub CALLS_ROOM : ℕ
 CALLS_ROOM = 384
 
 -- the calls' arguments: 1 word, the start, counted from the start of the argument code
 abbrev pub ARGUMENTS : ℕ
-ARGUMENTS = 15488
+ARGUMENTS = 15872
 
 abbrev pub ARGUMENTS_ROOM : ℕ
 ARGUMENTS_ROOM = 384
