@@ -11,6 +11,7 @@ use code::segment;
 use depth::Depth;
 use program::ConstIdx;
 use program::opcodes::Opcode;
+use workspace::counts::{Listed, Pools};
 
 // The first words of Push, PushConst and Const. By `as`: a constant can call no function.
 const PUSH: u32 = Opcode::Push as u32 * 16777216;
@@ -19,26 +20,30 @@ const PUSH_CONST: u32 = Opcode::PushConst as u32 * 16777216;
 
 const CONST: u32 = Opcode::Const as u32 * 16777216;
 
-// How much of each region is in use, the depth, the open segment, the finished code, flags, a waiting Push, and the first refusal, of the caller's type R.
+// The code: the end of the open code, where its open segment begins, the end of the finished code, and whether a Push waits.
 #[derive(Clone, Copy, Drop)]
-pub struct State<R> {
-    pub consts: u16,
-    pub posts: u16,
-    pub hashes: u16,
-    pub names: u16,
-    pub temps: u16,
-    pub members: u16,
-    pub stores: u16,
-    pub paths: u16,
-    pub calls: u16,
-    pub arguments: u16,
-    pub depth: Depth,
+pub struct OpenCode {
     pub top: u16,
     pub base: u16,
     pub finished: u16,
-    pub flags: u16,
     pub waiting: bool,
+}
+
+// The program's flags, as bits, and whether it starts on the float loop.
+#[derive(Clone, Copy, Drop)]
+pub struct Marks {
+    pub bits: u16,
     pub float_loop: bool,
+}
+
+// How much of each region is in use, the code, the depth, the flags, and the first refusal, of the caller's type R.
+#[derive(Clone, Copy, Drop)]
+pub struct State<R> {
+    pub pools: Pools,
+    pub listed: Listed,
+    pub code: OpenCode,
+    pub depth: Depth,
+    pub marks: Marks,
     pub refusal: Option<R>,
 }
 
@@ -55,8 +60,8 @@ impl<'a, R: Copy + Drop> Builder<'a, R> {
     pub fn emit(&mut self, front: u32, back: u32)
         ensures { Did self.old self.new (emitted front back) }
     {
-        let top = segment::emit(self.words, self.state.top, front, back);
-        self.state.top = top;
+        let top = segment::emit(self.words, self.state.code.top, front, back);
+        self.state.code.top = top;
     }
 
     // A Push that waits comes before anything that is no constant.
@@ -64,8 +69,8 @@ impl<'a, R: Copy + Drop> Builder<'a, R> {
     pub fn flush(&mut self)
         ensures { Did self.old self.new flushed }
     {
-        if self.state.waiting {
-            self.state.waiting = false;
+        if self.state.code.waiting {
+            self.state.code.waiting = false;
             self.emit(PUSH, 0);
         }
     }
@@ -83,8 +88,8 @@ impl<'a, R: Copy + Drop> Builder<'a, R> {
     pub fn put_const(&mut self, index: ConstIdx)
         ensures { Did self.old self.new (put_const index.0) }
     {
-        if self.state.waiting {
-            self.state.waiting = false;
+        if self.state.code.waiting {
+            self.state.code.waiting = false;
             self.emit(PUSH_CONST, index.0);
             return;
         }
@@ -97,6 +102,6 @@ impl<'a, R: Copy + Drop> Builder<'a, R> {
         ensures { Did self.old self.new (still pushed) }
     {
         self.state.depth.push_operand();
-        self.state.waiting = true;
+        self.state.code.waiting = true;
     }
 }

@@ -10,16 +10,16 @@ use code::segment::{self, Ends};
 impl<R: Copy + Drop> State<R> {
     // Where the next instruction goes, counted from the segment's start.
     pub fn place(&self) -> u16
-        ensures { result ≡ self.now.top - self.now.base }
+        ensures { result ≡ self.now.code.top - self.now.code.base }
     {
-        self.top.saturating_sub(self.base)
+        self.code.top.saturating_sub(self.code.base)
     }
 
     // A place of the open segment as one of the open code; none lies past 65535.
     fn absolute(&self, at: u16) -> u16
-        ensures { result ≡ within self.now.base at }
+        ensures { result ≡ within self.now.code.base at }
     {
-        self.base.saturating_add(at)
+        self.code.base.saturating_add(at)
     }
 }
 
@@ -38,7 +38,7 @@ impl<'a, R: Copy + Drop> Builder<'a, R> {
         ensures { Did self.old self.new (λ h. (h.0, breaks_resolved h.0 at ends.check ends.cleanup h.1)) }
     {
         let from = self.state.absolute(at);
-        let count = self.state.top.saturating_sub(from);
+        let count = self.state.code.top.saturating_sub(from);
         segment::resolve_breaks(self.words, from, count, ends);
     }
 
@@ -47,8 +47,8 @@ impl<'a, R: Copy + Drop> Builder<'a, R> {
     pub fn open_segment(&mut self)
         ensures { Did self.old self.new (still opened) }
     {
-        self.state.base = self.state.top;
-        self.state.waiting = false;
+        self.state.code.base = self.state.code.top;
+        self.state.code.waiting = false;
     }
 
     // The open segment is finished, and the one that began at `base` is open again.
@@ -56,12 +56,12 @@ impl<'a, R: Copy + Drop> Builder<'a, R> {
     pub fn close_segment(&mut self, base: u16, waiting: bool)
         ensures { Did self.old self.new (closed base waiting) }
     {
-        let start = self.state.base;
+        let start = self.state.code.base;
         let count = self.state.place();
-        let finished = segment::move_segment(self.words, start, count, self.state.finished);
-        self.state.top = start;
-        self.state.base = base;
-        self.state.finished = finished;
-        self.state.waiting = waiting;
+        let finished = segment::move_segment(self.words, start, count, self.state.code.finished);
+        self.state.code.top = start;
+        self.state.code.base = base;
+        self.state.code.finished = finished;
+        self.state.code.waiting = waiting;
     }
 }

@@ -16,7 +16,7 @@ use Rattle.program.specs.Image.{bit, word_of, put_instruction, put_text, put_pos
 use Rattle.program.specs.Targets.{shift_of}
 use Rattle.program.specs.Fits.{Below, Every, FitInstruction, FitPost, root_index, FitStore, FitCall, FitProgram}
 use Rattle.card.specs.declared.Sections.{Sections}
-use Rattle.workspace.specs.Layout.{OPEN, FINISHED, CONSTS, POSTS, HASHES, NAMES, TEMPS, MEMBERS, STORES, PATHS, CALLS, ARGUMENTS}
+use Rattle.workspace.specs.Layout.{OPEN, FINISHED, POSTS, HASHES, NAMES, TEMPS, MEMBERS, STORES, PATHS, CALLS, ARGUMENTS}
 use Rattle.card.specs.Written.{cat, joined}
 use Rattle.workspace.specs.Words.{plus}
 use Rattle.card.specs.Image.{word_entry, half_entry, instruction_bytes, instruction_entry, const_entry, dotted_bytes, text_bytes, hash_bytes, name_bytes, name_entry, member_bytes, member_entry, store_bytes, store_at, store_entry, call_bytes, call_at, call_entry, code_section, consts_section, posts_section, hashes_section, names_section, temps_section, members_section, stores_section, calls_section, closing_bytes, sections_of, body_of, image_of}
@@ -135,17 +135,17 @@ module _ (tree ws : List ℕ) (c : Sections) (P : Program) (q : Holds tree ws c 
       ∙ ap (λ l. a ++ l) (instructions q.finished FINISHED c.code q.finished_count q.finished_is fit.1 r) ∙ sym (append_assoc a b r))
       ∙ ap (λ l. l ++ r) (sym (append_assoc (be 4 (c.code + c.finished) []) a b))
 
-  consts_are : (r : List ℕ) → list (be 4) 4 P.consts r ≡ consts_section ws c.consts ++ r
+  consts_are : (r : List ℕ) → list (be 4) 4 P.consts r ≡ consts_section ws c.pools.consts ++ r
   unfolding consts_section
   consts_are r =
       section (be 4) P.consts _ r q.consts_count
       (counted (be 4) 0 P.consts (const_entry ws) q.consts_count (λ k l s. number 4 (get_or P.consts k 0) s ∙ ap (λ v. be 4 v [] ++ s) (sym (q.consts k l))) r)
 
-  all_posts : (r : List ℕ) → list put_post 4 P.posts r ≡ posts_section ws c.posts ++ r
+  all_posts : (r : List ℕ) → list put_post 4 P.posts r ≡ posts_section ws c.pools.posts ++ r
   unfolding posts_section put_post entries
   all_posts r =
-      let w = cat (word_entry ws POSTS 0) (2 * c.posts) in
-      let n : length P.posts ≡ c.posts + 1 = ap length q.posts ∙ ap suc q.posts_count ∙ sym (add-one c.posts) in
+      let w = cat (word_entry ws POSTS 0) (2 * c.pools.posts) in
+      let n : length P.posts ≡ c.pools.posts + 1 = ap length q.posts ∙ ap suc q.posts_count ∙ sym (add-one c.pools.posts) in
       let fit : Every FitPost (identity ∷ q.further) = rw q.posts at h.posts.each in
       section put_post P.posts (be 4 identity.scale [] ++ (be 4 identity.offset [] ++ w)) r n
       (ap (λ l. entries put_post l r) q.posts ∙ number 4 identity.scale _ ∙ ap (λ l. be 4 identity.scale [] ++ l) (number 4 identity.offset _
@@ -153,37 +153,37 @@ module _ (tree ws : List ℕ) (c : Sections) (P : Program) (q : Holds tree ws c 
       ∙ simp append_assoc)
       ∙ simp append_assoc
 
-  all_hashes : (r : List ℕ) → list (be 8) 4 P.hashes r ≡ hashes_section ws c.hashes ++ r
+  all_hashes : (r : List ℕ) → list (be 8) 4 P.hashes r ≡ hashes_section ws c.pools.hashes ++ r
   unfolding hashes_section
   all_hashes r = section (be 8) P.hashes _ r q.hashes_count (hashes_are ws HASHES P.hashes q.hashes_count q.hashes h.hashes.each r)
 
-  names_are : (r : List ℕ) → list put_name 4 P.names r ≡ names_section tree ws c.names ++ r
+  names_are : (r : List ℕ) → list put_name 4 P.names r ≡ names_section tree ws c.pools.names ++ r
   unfolding names_section
   names_are r =
       section put_name P.names _ r q.names_count
       (counted put_name (record { hash = 0; text = [] }) P.names (name_entry tree ws) q.names_count (λ k l. name_is tree ws (NAMES + 3 * k) _ (q.names k l)) r)
 
-  temps_are : (r : List ℕ) → list (be 2) 4 P.temps r ≡ temps_section ws c.temps ++ r
+  temps_are : (r : List ℕ) → list (be 2) 4 P.temps r ≡ temps_section ws c.pools.temps ++ r
   unfolding temps_section
   temps_are r =
       section (be 2) P.temps _ r q.temps_count
       (counted (be 2) 0 P.temps (half_entry ws TEMPS) q.temps_count
       (λ k l s. number 2 (get_or P.temps k 0) s ∙ ap (λ v. be 2 v [] ++ s) (low_half (q.temps k l) (every_at (Below 2) 0 P.temps h.temps.each k l))) r)
 
-  members_are : (r : List ℕ) → list put_member 4 P.members r ≡ members_section tree ws c.members ++ r
+  members_are : (r : List ℕ) → list put_member 4 P.members r ≡ members_section tree ws c.pools.members ++ r
   unfolding members_section
   members_are r =
       section put_member P.members _ r q.members_count
       (counted put_member (record { hash = 0; text = []; report = [] }) P.members (member_entry tree ws) q.members_count (λ k l. member_is tree ws (MEMBERS + 6 * k) _ (q.members k l)) r)
 
-  stores_are : (r : List ℕ) → list put_store 4 P.stores r ≡ stores_section ws c.stores ++ r
+  stores_are : (r : List ℕ) → list put_store 4 P.stores r ≡ stores_section ws c.listed.stores ++ r
   unfolding stores_section
   stores_are r =
       let d : MemberStore = record { root = root_other; path = [] } in
       section put_store P.stores _ r q.stores_count
       (counted put_store d P.stores (store_entry ws) q.stores_count (λ k l. store_is ws (STORES + 4 * k) _ (q.stores k l) (every_at FitStore d P.stores h.stores.each k l)) r)
 
-  calls_are : (r : List ℕ) → list put_call 4 P.calls r ≡ calls_section ws c.code c.calls ++ r
+  calls_are : (r : List ℕ) → list put_call 4 P.calls r ≡ calls_section ws c.code c.listed.calls ++ r
   unfolding calls_section
   calls_are r =
       let d : QueryCall = record { index = 0; impl = 0; starts = [] } in
@@ -199,11 +199,11 @@ module _ (tree ws : List ℕ) (c : Sections) (P : Program) (q : Holds tree ws c 
   body_is : put_program P [] ≡ body_of tree ws c
   unfolding put_program body_of sections_of joined
   body_is =
-      code_is _ ∙ ap (λ l. code_section ws c.code c.finished ++ l) (consts_are _ ∙ ap (λ l. consts_section ws c.consts ++ l)
-      (all_posts _ ∙ ap (λ l. posts_section ws c.posts ++ l) (all_hashes _ ∙ ap (λ l. hashes_section ws c.hashes ++ l)
-      (names_are _ ∙ ap (λ l. names_section tree ws c.names ++ l) (temps_are _ ∙ ap (λ l. temps_section ws c.temps ++ l)
-      (members_are _ ∙ ap (λ l. members_section tree ws c.members ++ l) (stores_are _ ∙ ap (λ l. stores_section ws c.stores ++ l)
-      (calls_are _ ∙ ap (λ l. calls_section ws c.code c.calls ++ l) closing_is))))))))
+      code_is _ ∙ ap (λ l. code_section ws c.code c.finished ++ l) (consts_are _ ∙ ap (λ l. consts_section ws c.pools.consts ++ l)
+      (all_posts _ ∙ ap (λ l. posts_section ws c.pools.posts ++ l) (all_hashes _ ∙ ap (λ l. hashes_section ws c.pools.hashes ++ l)
+      (names_are _ ∙ ap (λ l. names_section tree ws c.pools.names ++ l) (temps_are _ ∙ ap (λ l. temps_section ws c.pools.temps ++ l)
+      (members_are _ ∙ ap (λ l. members_section tree ws c.pools.members ++ l) (stores_are _ ∙ ap (λ l. stores_section ws c.listed.stores ++ l)
+      (calls_are _ ∙ ap (λ l. calls_section ws c.code c.listed.calls ++ l) closing_is))))))))
 
   -- the image of the workspace is the image of the program
   pub image_is : length (put_program P []) < 256 ^ 4 → image_of tree ws c ≡ image P

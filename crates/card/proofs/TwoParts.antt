@@ -11,17 +11,17 @@ use Rattle.card.specs.Image.{stores_section, calls_section, closing_bytes, secti
 unfoldable pub front_of : List ℕ → List ℕ → Sections → List ℕ
 front_of tree ws c =
     code_section ws c.code c.finished
-    ++ consts_section ws c.consts
-    ++ posts_section ws c.posts
-    ++ hashes_section ws c.hashes
-    ++ names_section tree ws c.names
+    ++ consts_section ws c.pools.consts
+    ++ posts_section ws c.pools.posts
+    ++ hashes_section ws c.pools.hashes
+    ++ names_section tree ws c.pools.names
 
 unfoldable pub back_of : List ℕ → List ℕ → Sections → List ℕ
 back_of tree ws c =
-    temps_section ws c.temps
-    ++ members_section tree ws c.members
-    ++ stores_section ws c.stores
-    ++ calls_section ws c.code c.calls
+    temps_section ws c.pools.temps
+    ++ members_section tree ws c.pools.members
+    ++ stores_section ws c.listed.stores
+    ++ calls_section ws c.code c.listed.calls
     ++ closing_bytes c
 
 pub two_parts : (tree ws : List ℕ) (c : Sections) → body_of tree ws c ≡ front_of tree ws c ++ back_of tree ws c

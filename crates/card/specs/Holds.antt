@@ -83,24 +83,24 @@ pub record Holds (tree ws : List ℕ) (c : Sections) (P : Program) : Type 0 wher
   pub main_is : Each halt (λ k i. InstructionIs ws 0 (OPEN + 2 * k) i) main
   pub finished_count : length finished ≡ c.finished
   pub finished_is : Each halt (λ k i. InstructionIs ws c.code (FINISHED + 2 * k) i) finished
-  pub consts_count : length P.consts ≡ c.consts
+  pub consts_count : length P.consts ≡ c.pools.consts
   pub consts : Each 0 (λ k v. get_or ws (CONSTS + 2 * k) 0 ≡ v) P.consts
   pub further : List Post
   pub posts : P.posts ≡ identity ∷ further
-  pub posts_count : length further ≡ c.posts
+  pub posts_count : length further ≡ c.pools.posts
   pub posts_are : Each identity (λ k p. PostIs ws (POSTS + 2 * k) p) further
-  pub hashes_count : length P.hashes ≡ c.hashes
+  pub hashes_count : length P.hashes ≡ c.pools.hashes
   pub hashes : HashesAre ws HASHES P.hashes
-  pub names_count : length P.names ≡ c.names
+  pub names_count : length P.names ≡ c.pools.names
   pub names : Each (record { hash = 0; text = [] }) (λ k n. NameIs tree ws (NAMES + 3 * k) n) P.names
-  pub temps_count : length P.temps ≡ c.temps
+  pub temps_count : length P.temps ≡ c.pools.temps
   pub temps : Each 0 (λ k v. get_or ws (TEMPS + k) 0 ≡ v) P.temps
-  pub members_count : length P.members ≡ c.members
+  pub members_count : length P.members ≡ c.pools.members
   pub members : Each (record { hash = 0; text = []; report = [] }) (λ k m. MemberIs tree ws (MEMBERS + 6 * k) m) P.members
-  pub stores_count : length P.stores ≡ c.stores
+  pub stores_count : length P.stores ≡ c.listed.stores
   pub stores : Each (record { root = root_other; path = [] }) (λ k s. StoreIs ws (STORES + 4 * k) s) P.stores
-  pub calls_count : length P.calls ≡ c.calls
+  pub calls_count : length P.calls ≡ c.listed.calls
   pub calls : Each (record { index = 0; impl = 0; starts = [] }) (λ k q. CallIs ws c.code (CALLS + 4 * k) q) P.calls
   pub depths : counts_of c.depths ≡ P.depths
-  pub flags : c.flags ≡ P.flags
-  pub float_loop : c.float_loop ≡ P.float_loop
+  pub flags : c.marks.bits ≡ P.flags
+  pub float_loop : c.marks.float_loop ≡ P.float_loop

@@ -112,20 +112,20 @@ calls_section ws base n = be 4 n [] ++ cat (call_entry ws base) n
 
 -- 01, The program image: "Then stack, loops, handlers (2 each), flags (2), float_loop (1)."
 unfoldable pub closing_bytes : Sections → List ℕ
-closing_bytes c = joined (map (λ n. be 2 n []) (numbers (counts_of c.depths))) (be 2 c.flags [] ++ be 1 (bit c.float_loop) [])
+closing_bytes c = joined (map (λ n. be 2 n []) (numbers (counts_of c.depths))) (be 2 c.marks.bits [] ++ be 1 (bit c.marks.float_loop) [])
 
 -- the nine sections, code to calls
 unfoldable pub sections_of : List ℕ → List ℕ → Sections → List (List ℕ)
 sections_of tree ws c =
     code_section ws c.code c.finished
-    ∷ consts_section ws c.consts
-    ∷ posts_section ws c.posts
-    ∷ hashes_section ws c.hashes
-    ∷ names_section tree ws c.names
-    ∷ temps_section ws c.temps
-    ∷ members_section tree ws c.members
-    ∷ stores_section ws c.stores
-    ∷ calls_section ws c.code c.calls
+    ∷ consts_section ws c.pools.consts
+    ∷ posts_section ws c.pools.posts
+    ∷ hashes_section ws c.pools.hashes
+    ∷ names_section tree ws c.pools.names
+    ∷ temps_section ws c.pools.temps
+    ∷ members_section tree ws c.pools.members
+    ∷ stores_section ws c.listed.stores
+    ∷ calls_section ws c.code c.listed.calls
     ∷ []
 
 -- all behind the length: the sections one behind the other, then the closing fields

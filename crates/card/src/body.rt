@@ -88,8 +88,8 @@ impl Writer<'_> {
         self.put(c.depths.stack);
         self.put(c.depths.loops);
         self.put(c.depths.handlers);
-        self.put(c.flags);
-        self.put(u8::from(c.float_loop));
+        self.put(c.marks.bits);
+        self.put(u8::from(c.marks.float_loop));
     }
 }
 
@@ -106,21 +106,21 @@ impl Lowered<'_> {
         w.at = closing;
         w.closing(c);
         w.at = closing - s.calls;
-        w.section(&Calls(self), c.calls);
+        w.section(&Calls(self), c.listed.calls);
         w.at = closing - s.stores;
-        w.section(&Stores(self), c.stores);
+        w.section(&Stores(self), c.listed.stores);
         w.at = closing - s.members;
-        w.section(&Members(self), c.members);
+        w.section(&Members(self), c.pools.members);
         w.at = closing - s.temps;
-        w.section(&Temps(self), c.temps);
+        w.section(&Temps(self), c.pools.temps);
         w.at = closing - s.names;
-        w.section(&Names(self), c.names);
+        w.section(&Names(self), c.pools.names);
         w.at = closing - s.hashes;
-        w.hashes(ws, c.hashes);
+        w.hashes(ws, c.pools.hashes);
         w.at = closing - s.posts;
-        w.posts(ws, c.posts);
+        w.posts(ws, c.pools.posts);
         w.at = closing - s.consts;
-        w.section(&Consts(self), c.consts);
+        w.section(&Consts(self), c.pools.consts);
         w.at = closing - s.code;
         w.code(ws, c.code, c.finished);
     }

@@ -11,25 +11,20 @@ ghost use Rattle.card.specs.Image.{image_of, laid, answer_of};
 ghost use Rattle.card.specs.Lowered.{of_parts};
 
 use answers::refusals::Refusal;
+use builder::Marks;
 use fields::Writer;
 use program::Depths;
+use workspace::counts::{Listed, Pools};
 
 // How many entries each region holds, and the closing fields; `posts` without slot 0.
 #[derive(Clone, Copy, Drop)]
 pub struct Sections {
     pub code: u16,
     pub finished: u16,
-    pub consts: u16,
-    pub posts: u16,
-    pub hashes: u16,
-    pub names: u16,
-    pub temps: u16,
-    pub members: u16,
-    pub stores: u16,
-    pub calls: u16,
+    pub pools: Pools,
+    pub listed: Listed,
     pub depths: Depths,
-    pub flags: u16,
-    pub float_loop: bool,
+    pub marks: Marks,
 }
 
 // What is written: the tree image, for its texts, the lent workspace, and how much of it.

@@ -107,14 +107,14 @@ impl Lowered<'_> {
         ensures { (result ≡ of_parts sums_of self.entry) × (result.code ≤ 2 ^ 44) }
     {
         let c = self.sections;
-        let calls = COUNT + sizes(&Calls(self), c.calls);
-        let stores = COUNT + sizes(&Stores(self), c.stores) + calls;
-        let members = COUNT + sizes(&Members(self), c.members) + stores;
-        let temps = COUNT + HALF * usize::from(c.temps) + members;
-        let names = COUNT + sizes(&Names(self), c.names) + temps;
-        let hashes = COUNT + PAIR * usize::from(c.hashes) + names;
-        let posts = COUNT + PAIR * (usize::from(c.posts) + 1) + hashes;
-        let consts = COUNT + WORD * usize::from(c.consts) + posts;
+        let calls = COUNT + sizes(&Calls(self), c.listed.calls);
+        let stores = COUNT + sizes(&Stores(self), c.listed.stores) + calls;
+        let members = COUNT + sizes(&Members(self), c.pools.members) + stores;
+        let temps = COUNT + HALF * usize::from(c.pools.temps) + members;
+        let names = COUNT + sizes(&Names(self), c.pools.names) + temps;
+        let hashes = COUNT + PAIR * usize::from(c.pools.hashes) + names;
+        let posts = COUNT + PAIR * (usize::from(c.pools.posts) + 1) + hashes;
+        let consts = COUNT + WORD * usize::from(c.pools.consts) + posts;
         let code = COUNT + INSTRUCTION * (usize::from(c.code) + usize::from(c.finished)) + consts;
         Sums {
             code,

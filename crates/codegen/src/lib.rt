@@ -5,11 +5,11 @@ ghost use Rattle.std.specs.Prelude.{◌≡◌, cond};
 ghost use Rattle.std.specs.Int.Bits.{bit_and};
 ghost use Rattle.ast.specs.Questions.{questions};
 ghost use Rattle.program.specs.Kinds.{NOT_FLOAT};
-ghost use Rattle.representation.specs.Sections.{sections_of};
+ghost use Rattle.representation.specs.Sections.{final_marks, sections_of};
 ghost use Rattle.codegen.specs.Build.{shown, packed, zeros, Built, Packed, Asked};
 
 use answers::refusals::Refusal;
-use builder::State;
+use builder::{Marks, State};
 use card::Sections;
 use program::Flags;
 use workspace::layout;
@@ -81,30 +81,27 @@ fn sections(s: State<Refusal>) -> Sections
 {
     let d = s.depth;
     let most = d.max;
-    let fits = most.in_float_loop(s.temps);
+    let fits = most.in_float_loop(s.pools.temps);
     Sections {
-        code: s.top,
-        finished: s.finished,
-        consts: s.consts,
-        posts: s.posts,
-        hashes: s.hashes,
-        names: s.names,
-        temps: s.temps,
-        members: s.members,
-        stores: s.stores,
-        calls: s.calls,
+        code: s.code.top,
+        finished: s.code.finished,
+        pools: s.pools,
+        listed: s.listed,
         depths: most,
-        flags: final_flags(s.flags, fits),
-        float_loop: s.float_loop && fits,
+        marks: final_marks(s.marks, fits),
     }
 }
 
-// A program that is too deep for the float loop is not FLOAT_ONLY.
-fn final_flags(flags: u16, fits: bool) -> u16
-    ensures { result ≡ cond fits flags (bit_and flags NOT_FLOAT) }
+// A program that is too deep for the float loop is not FLOAT_ONLY, and does not start on it.
+#[tactic(auto, unfolding(representation::specs::Sections::final_marks))]
+fn final_marks(m: Marks, fits: bool) -> Marks
+    ensures { result ≡ final_marks fits m }
 {
     if fits {
-        return flags;
+        return m;
     }
-    flags & Flags::NOT_FLOAT
+    Marks {
+        bits: m.bits & Flags::NOT_FLOAT,
+        float_loop: false,
+    }
 }

@@ -11,7 +11,7 @@ use Rattle.std.specs.Cmp.Derive.{both_true}
 use Rattle.std.proofs.Math.Bool.{and-false}
 use Rattle.std.proofs.lemmas.Bool.{and_parts}
 use Rattle.std.proofs.lemmas.List.{drop_more}
-use Rattle.lowering.specs.Search.{stands, hit, word_hit, pair_hit, name_hit, member_hit}
+use Rattle.lowering.specs.Search.{stands, hit}
 use Rattle.lowering.proofs.Slots.{same, same_is}
 
 module _ (W : List ℕ) where
@@ -49,25 +49,7 @@ module _ (W : List ℕ) where
       let k : n - j ≡ suc (n - (j + 1)) = omega arith in
       s ∙ rw (k, drop_more words j 0 m, eq-eqb _ _ e, z)
 
--- two of them
-abbrev Pair : List ℕ → ℕ → ℕ → ℕ → Type 0
-Pair W at a b = (get_or W at 0 ≡ a) × (get_or W (at + 1) 0 ≡ b)
-
-module _ (W : List ℕ) (from : ℕ) {P : Type 0} (d : Dec P) where
-  hit_lem : (width : ℕ) (key : List ℕ) (i : ℕ) → (Stand W (from + width * i) key → P) → (P → Stand W (from + width * i) key) → hit W from width key i ≡ same d
-  unfolding hit
-  hit_lem width key i f g = same_is _ d (λ e. f (true_stands W _ key e)) (λ p. stands_true W _ key (g p))
-
-  pub word_hit_lem : (a i : ℕ) → (get_or W (from + i) 0 ≡ a → P) → (P → get_or W (from + i) 0 ≡ a) → word_hit W from a i ≡ same d
-  word_hit_lem a i f g = let e : from + 1 * i ≡ from + i = omega arith in hit_lem 1 (a ∷ []) i (λ s. f (rw (← e) s.0)) (λ p. rw e (g p, tt))
-
-  pub pair_hit_lem : (a b i : ℕ) → (Pair W (from + 2 * i) a b → P) → (P → Pair W (from + 2 * i) a b) → pair_hit W from a b i ≡ same d
-  pair_hit_lem a b i f g = hit_lem 2 (a ∷ b ∷ []) i (λ s. f (s.0, s.1.0)) (λ p. let h = g p in (h.0, (h.1, tt)))
-
-  pub name_hit_lem : (a b i : ℕ) → (Pair W (from + 3 * i) a b → P) → (P → Pair W (from + 3 * i) a b) → name_hit W from a b i ≡ same d
-  name_hit_lem a b i f g = hit_lem 3 (a ∷ b ∷ []) i (λ s. f (s.0, s.1.0)) (λ p. let h = g p in (h.0, (h.1, tt)))
-
-  pub member_hit_lem : (a b c e i : ℕ) → (Pair W (from + 6 * i) a b → Pair W (from + 6 * i + 2) c e → P) → (P → Pair W (from + 6 * i) a b) → (P → Pair W (from + 6 * i + 2) c e) → member_hit W from a b c e i ≡ same d
-  member_hit_lem a b c e i f g h =
-      let z : from + 6 * i + 1 + 1 ≡ from + 6 * i + 2 = omega arith in
-      hit_lem 6 (a ∷ b ∷ c ∷ e ∷ []) i (λ s. let t = rw z at s.1.1 in f (s.0, s.1.0) (t.0, t.1.0)) (λ p. let k = g p in let m = h p in (k.0, (k.1, rw z (m.0, (m.1, tt)))))
+-- where the key's words are what decides
+pub hit_decides : (W : List ℕ) (from width : ℕ) (key : List ℕ) (i : ℕ) {P : Type 0} (d : Dec P) → (Stand W (from + width * i) key → P) → (P → Stand W (from + width * i) key) → hit W from width key i ≡ same d
+unfolding hit
+hit_decides W from width key i d f g = same_is _ d (λ e. f (true_stands W _ key e)) (λ p. stands_true W _ key (g p))

@@ -52,6 +52,6 @@ module _ (t : List ℕ) (E : ℕ → Bool → Step) (C : ℕ → NameRef → Boo
 
   -- a call: its number, its arguments, and the instruction
   pub call_all : (p : ℕ) (h : Held) {k a j : ℕ} {y : Payload} {q : QueryRef} {x : Found} {h1 h2 h3 : Held} → y ≡ payload_ref_at t p → y ≡ Query q → k ≡ count_at t p → h1 ≡ still (queried (eqb k 0)) h → x ≡ call_begun q.index q.impl_idx k h1 → a ≡ first_at t p
-      → h2 ≡ arguments t E C R x.0.state.base x.0.state.waiting k a h1.0.arguments (x.0.state, x.1) → j ≡ x.0.index → h3 ≡ put_post t p O.CALL 0 j h2 → h3 ≡ query t E C R p h
+      → h2 ≡ arguments t E C R x.0.state.code.base x.0.state.code.waiting k a h1.0.listed.arguments (x.0.state, x.1) → j ≡ x.0.index → h3 ≡ put_post t p O.CALL 0 j h2 → h3 ≡ query t E C R p h
   unfolding query as_query cases called call_begun
   call_all p h ey en ek e1 ex ea e2 ej e3 = rw (← ey, en, ← ek, e3, ej, e2, ex, e1, ea)

@@ -177,7 +177,7 @@ module _ (t : List ℕ) where
 
   -- the target at p has a path of so many links and levels; q is the post
   unfoldable pub store_as : ℕ → ℕ → ℕ → ℕ → ℕ → ℕ → Step
-  store_as kind index n p count q h = going (store_added kind index h.0.paths count (path_hashes n p h)) λ k. instr O.STORE_MEMBER 0 k q
+  store_as kind index n p count q h = going (store_added kind index h.0.listed.paths count (path_hashes n p h)) λ k. instr O.STORE_MEMBER 0 k q
 
   -- under the root of the path: a variable, a temp, or any other value
   unfoldable pub store_under : ℕ → ℕ → ℕ → ℕ → ℕ → Step

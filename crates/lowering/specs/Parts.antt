@@ -7,6 +7,7 @@ use Rattle.program.specs.Opcodes as O
 use Rattle.workspace.specs.Layout.{STORES, STORES_ROOM, PATHS, PATHS_ROOM, CALLS, CALLS_ROOM, ARGUMENTS, ARGUMENTS_ROOM}
 use Rattle.workspace.specs.Words.{high, low}
 use Rattle.workspace.specs.Counts.{sum}
+use Rattle.workspace.specs.declared.counts.Listed.{Listed}
 use Rattle.lowering.specs.Regions.{appended_count, appended_words}
 use Rattle.payload.specs.declared.NameRef.{NameRef}
 use Rattle.lowering.specs.Held.{State, Held}
@@ -16,7 +17,6 @@ use Rattle.builder.specs.Steps.{emitted, flushed, put, failed}
 use Rattle.lowering.specs.Pools as B
 use Rattle.lowering.specs.Pools.{Found, after}
 use Rattle.builder.specs.Segments.{targeted, breaks_resolved, closed}
-use Rattle.lowering.specs.Steps.{set_stores, set_paths, set_calls, set_arguments}
 
 abbrev pub Step : Type 0
 Step = Held → Held
@@ -85,7 +85,7 @@ post_instr t p = either (is_identity (post_bits t p)) flushed (put_post t p O.PO
 
 -- the place of the next instruction, counted from the segment's start
 abbrev pub place : State → ℕ
-place s = s.top - s.base
+place s = s.code.top - s.code.base
 
 -- an instruction whose target is not known yet, and its place
 unfoldable pub emit_jump : ℕ → ℕ → ℕ → Held → Found
@@ -139,12 +139,15 @@ abbrev pub where_found : Option VariableIdx → Step → (VariableIdx → Step) 
 where_found None other f h = other h
 where_found (Some i) other f h = f i h
 
+abbrev pub set_listed : Listed → State → State
+set_listed x s = record s { listed = x }
+
 -- a call takes its number, and places for its arguments' starts
 unfoldable pub call_begun : ℕ → ℕ → ℕ → Held → Found
 call_begun index impl count h =
-    let k = h.0.calls in
-    let first = h.0.arguments in (
-      record { state = set_arguments (sum first count) (set_calls (appended_count k CALLS_ROOM) h.0); index = k },
+    let k = h.0.listed.calls in
+    let first = h.0.listed.arguments in (
+      record { state = set_listed (record h.0.listed { calls = appended_count k CALLS_ROOM; arguments = sum first count }) h.0; index = k },
       appended_words k CALLS_ROOM h.1 (CALLS + 4 * k) (index ∷ impl ∷ count ∷ first ∷ []),
     )
 
@@ -157,18 +160,18 @@ unfoldable pub argument_closed : ℕ → Bool → ℕ → Step
 argument_closed base waiting slot h =
     let g = instr O.END 0 0 0 h in
     let r = closed base waiting (resolve_breaks 0 0 0 g) in
-    (r.0, cond (ltb slot ARGUMENTS_ROOM) (set r.1 (ARGUMENTS + slot) g.0.finished) r.1)
+    (r.0, cond (ltb slot ARGUMENTS_ROOM) (set r.1 (ARGUMENTS + slot) g.0.code.finished) r.1)
 
 -- a hash of a path
 unfoldable pub path_added : ℕ → Step
 path_added v h =
-    let n = h.0.paths in
-    (set_paths (appended_count n PATHS_ROOM) h.0, appended_words n PATHS_ROOM h.1 (PATHS + 2 * n) (high v ∷ low v ∷ []))
+    let n = h.0.listed.paths in
+    (set_listed (record h.0.listed { paths = appended_count n PATHS_ROOM }) h.0, appended_words n PATHS_ROOM h.1 (PATHS + 2 * n) (high v ∷ low v ∷ []))
 
 -- a store: its root's kind and index, the first entry of its path, their count
 unfoldable pub store_added : ℕ → ℕ → ℕ → ℕ → Held → Found
 store_added kind index first count h =
-    let n = h.0.stores in (
-      record { state = set_stores (appended_count n STORES_ROOM) h.0; index = n },
+    let n = h.0.listed.stores in (
+      record { state = set_listed (record h.0.listed { stores = appended_count n STORES_ROOM }) h.0; index = n },
       appended_words n STORES_ROOM h.1 (STORES + 4 * n) (kind ∷ index ∷ first ∷ count ∷ []),
     )

@@ -21,18 +21,12 @@ interned_count index n room = cond (ltb index n) n (appended_count n room)
 unfoldable pub interned_words : ℕ → ℕ → ℕ → List ℕ → ℕ → List ℕ → List ℕ
 interned_words index n room W at entry = cond (ltb index n) W (appended_words n room W at entry)
 
--- an entry's number, and how many entries there are with it
-pub record Interned : Type 0 where
-  pub index : ℕ
-  pub count : ℕ
-
-unfoldable pub interned : ℕ → ℕ → ℕ → Interned
-interned index n room = record { index = index; count = interned_count index n room }
-
 -- what appending to the words W gives: the count r and the words U
 abbrev pub Appends : ℕ → ℕ → List ℕ → ℕ → List ℕ → List ℕ → ℕ → Type 0
 Appends n room W at entry U r = (r ≡ appended_count n room) × (U ≡ appended_words n room W at entry)
 
--- what interning gives: index and count, and the words U
-abbrev pub Interns : (ℕ → Bool) → ℕ → ℕ → List ℕ → ℕ → List ℕ → List ℕ → Interned → Type 0
-Interns hit n room W at entry U r = (r ≡ interned (interned_index hit n) n room) × (U ≡ interned_words (interned_index hit n) n room W at entry)
+-- what interning gives: the index k, the count r and the words U
+abbrev pub Interns : (ℕ → Bool) → ℕ → ℕ → List ℕ → ℕ → List ℕ → List ℕ → ℕ → ℕ → Type 0
+Interns hit n room W at entry U k r =
+    let i = interned_index hit n in
+    (k ≡ i) × (r ≡ interned_count i n room) × (U ≡ interned_words i n room W at entry)

@@ -11,6 +11,7 @@ use Rattle.program.specs.Opcodes as O
 use Rattle.program.specs.Image.{bit}
 use Rattle.payload.specs.declared.NameRef.{NameRef}
 use Rattle.program.specs.declared.TheConstants.Depths.{NOTHING_OPEN}
+use Rattle.workspace.specs.declared.counts.Pools.{Pools}
 use Rattle.lowering.specs.Held.{State, Held}
 use Rattle.builder.specs.Steps.{still, failed, pushed}
 use Rattle.lowering.specs.Pools.{Found, after, constant}
@@ -66,7 +67,7 @@ module _ (t : List ℕ) (E : ℕ → Bool → Step) (C : ℕ → NameRef → Boo
       let g = still (queried (eqb (count_at t p) 0)) h in
       (do
         k ← with_call i m (count_at t p)
-        arguments g.0.base g.0.waiting (count_at t p) (first_at t p) g.0.arguments
+        arguments g.0.code.base g.0.code.waiting (count_at t p) (first_at t p) g.0.listed.arguments
         put_post t p O.CALL 0 k) g
 
   unfoldable pub query : ℕ → Step
@@ -338,26 +339,17 @@ module _ (t : List ℕ) where
   abbrev pub under : {X : Type 0} → ℕ → ((ℕ → Bool → Step) → (ℕ → NameRef → Bool → Step) → (ℕ → Bool → Step) → X) → X
   under n f = f (expr t n) (chain t n) (returned t n)
 
+abbrev pub no_pools : Pools
+no_pools = record { consts = 0; posts = 0; hashes = 0; names = 0; temps = 0; members = 0 }
+
 -- nothing is lowered yet
 abbrev pub start : State
 start = record {
-  top = 0;
-  base = 0;
-  finished = 0;
-  waiting = false;
-  consts = 0;
-  posts = 0;
-  hashes = 0;
-  names = 0;
-  temps = 0;
-  members = 0;
-  stores = 0;
-  paths = 0;
-  calls = 0;
-  arguments = 0;
+  pools = no_pools;
+  listed = record { stores = 0; paths = 0; calls = 0; arguments = 0 };
+  code = record { top = 0; base = 0; finished = 0; waiting = false };
   depth = record { now = NOTHING_OPEN; max = NOTHING_OPEN };
-  flags = Flag.FLOAT_ONLY;
-  float_loop = true;
+  marks = record { bits = Flag.FLOAT_ONLY; float_loop = true };
   refusal = None;
 }
 

@@ -19,22 +19,6 @@ stands W at (a ∷ key) = eqb (get_or W at 0) a && stands W (at + 1) key
 unfoldable pub hit : List ℕ → ℕ → ℕ → List ℕ → ℕ → Bool
 hit W from width key i = stands W (from + width * i) key
 
--- of entries of one word
-abbrev pub word_hit : List ℕ → ℕ → ℕ → ℕ → Bool
-word_hit W from a = hit W from 1 (a ∷ [])
-
--- of entries of two words
-abbrev pub pair_hit : List ℕ → ℕ → ℕ → ℕ → ℕ → Bool
-pair_hit W from a b = hit W from 2 (a ∷ b ∷ [])
-
--- of names: the hash is the key
-abbrev pub name_hit : List ℕ → ℕ → ℕ → ℕ → ℕ → Bool
-name_hit W from a b = hit W from 3 (a ∷ b ∷ [])
-
--- of members: the two hashes are the key
-abbrev pub member_hit : List ℕ → ℕ → ℕ → ℕ → ℕ → ℕ → ℕ → Bool
-member_hit W from a b c d = hit W from 6 (a ∷ b ∷ c ∷ d ∷ [])
-
 -- none of the entries from i up to n is a hit
 abbrev pub NoneHas : (ℕ → Bool) → ℕ → ℕ → Type 0
 NoneHas test i n = (k : ℕ) → i ≤ k → k < n → test k ≡ false

@@ -1,52 +1,38 @@
--- Steps beside the workspace's words: the depth counters, the flags, the regions' counts. Definitions only.
+-- Steps beside the workspace's words: the depth counters, the flags. Definitions only.
 use Rattle.std.specs.Prelude.{Bool, false, cond, ℕ}
 use Rattle.std.specs.Int.Bits.{bit_and, bit_or}
 use Rattle.program.specs.Kinds.{USES_QUERIES, NOT_FLOAT}
 use Rattle.depth.specs.Counters as D
 use Rattle.lowering.specs.Held.{State}
-use Rattle.builder.specs.Fields.{set_depth, set_flags}
-
-abbrev pub set_stores : ℕ → State → State
-set_stores x s = record s { stores = x }
-
-abbrev pub set_paths : ℕ → State → State
-set_paths x s = record s { paths = x }
-
-abbrev pub set_calls : ℕ → State → State
-set_calls x s = record s { calls = x }
-
-abbrev pub set_arguments : ℕ → State → State
-set_arguments x s = record s { arguments = x }
-
-abbrev pub set_float_loop : Bool → State → State
-set_float_loop x s = record s { float_loop = x }
 
 -- one more operand without a Push; k fewer
 unfoldable pub operand_entered : State → State
-operand_entered s = set_depth (D.pushed s.depth) s
+operand_entered s = record s { depth = D.pushed s.depth }
 
 unfoldable pub popped : ℕ → State → State
-popped k s = set_depth (D.popped s.depth k) s
+popped k s = record s { depth = D.popped s.depth k }
 
 unfoldable pub loop_entered : State → State
-loop_entered s = set_depth (D.loop_entered s.depth) s
+loop_entered s = record s { depth = D.loop_entered s.depth }
 
 unfoldable pub loop_left : State → State
-loop_left s = set_depth (D.loop_left s.depth) s
+loop_left s = record s { depth = D.loop_left s.depth }
 
 unfoldable pub handler_entered : State → State
-handler_entered s = set_depth (D.handler_entered s.depth) s
+handler_entered s = record s { depth = D.handler_entered s.depth }
 
 unfoldable pub handler_left : State → State
-handler_left s = set_depth (D.handler_left s.depth) s
+handler_left s = record s { depth = D.handler_left s.depth }
 
 unfoldable pub flagged : ℕ → State → State
-flagged bits s = set_flags (bit_or s.flags bits) s
+flagged bits s = record s { marks = record s.marks { bits = bit_or s.marks.bits bits } }
 
 -- all bits but FLOAT_ONLY stay
 unfoldable pub not_float_only : State → State
-not_float_only s = set_float_loop false (set_flags (bit_and s.flags NOT_FLOAT) s)
+not_float_only s = record s { marks = record { bits = bit_and s.marks.bits NOT_FLOAT; float_loop = false } }
 
 -- a query, alone if it has no arguments: USES_QUERIES
 unfoldable pub queried : Bool → State → State
-queried alone s = set_float_loop (cond alone s.float_loop false) (set_flags (bit_or (bit_and s.flags NOT_FLOAT) USES_QUERIES) s)
+queried alone s =
+    let m = s.marks in
+    record s { marks = record { bits = bit_or (bit_and m.bits NOT_FLOAT) USES_QUERIES; float_loop = cond alone m.float_loop false } }

@@ -58,7 +58,7 @@ fn path_end(node: Node<'_>, levels: u16) -> Option<PathEnd>
 fn add_path(b: &mut Builder<'_>, hash: u64)
     ensures { Did b.old b.new (path_added hash) }
 {
-    regions::PATHS.append(b.words, &mut b.state.paths, &[high(hash), low(hash)]);
+    regions::PATHS.append(b.words, &mut b.state.listed.paths, &[high(hash), low(hash)]);
 }
 
 // The path's hashes, from the root outwards.
@@ -111,7 +111,7 @@ fn add_store(b: &mut Builder<'_>, root: Option<VariableIdx>, first: u16, count: 
         u32::from(first),
         u32::from(count),
     ];
-    let k = regions::STORES.append(b.words, &mut b.state.stores, &entry);
+    let k = regions::STORES.append(b.words, &mut b.state.listed.stores, &entry);
     StoreIdx(k)
 }
 
@@ -127,7 +127,7 @@ fn store_as(
 )
     ensures { Did b.old b.new (R.store_as (bytes node.entry) (root_kind root) (root_index root) levels node.entry.at count q.0) }
 {
-    let first = b.state.paths;
+    let first = b.state.listed.paths;
     path_hashes(b, node, levels);
     let index = add_store(b, root, first, count);
     instr(b, Opcode::StoreMember, 0, u32::from(index.0), q);

@@ -19,15 +19,15 @@ use workspace::words::put_word;
 pub(crate) fn begin_call(b: &mut Builder<'_>, q: QueryRef, count: u16) -> CallIdx
     ensures { Gave b.old b.new result.0 (call_begun q.index q.impl_idx count) }
 {
-    let first = b.state.arguments;
+    let first = b.state.listed.arguments;
     let entry = [
         u32::from(q.index),
         u32::from(q.impl_idx),
         u32::from(count),
         u32::from(first),
     ];
-    let k = regions::CALLS.append(b.words, &mut b.state.calls, &entry);
-    b.state.arguments = first.saturating_add(count);
+    let k = regions::CALLS.append(b.words, &mut b.state.listed.calls, &entry);
+    b.state.listed.arguments = first.saturating_add(count);
     CallIdx(k)
 }
 
@@ -46,7 +46,7 @@ pub(crate) fn end_argument(b: &mut Builder<'_>, base: u16, waiting: bool, slot: 
 {
     instr(b, Opcode::End, 0, 0, PostIdx::PLAIN);
     b.resolve_breaks(0, Ends::START);
-    let start = b.state.finished;
+    let start = b.state.code.finished;
     b.close_segment(base, waiting);
     put_start(b.words, slot, start);
 }

@@ -23,19 +23,19 @@ use workspace::words::{high, low};
 const SHARED: u32 = 0;
 
 // A constant, by its bits and the mark.
-#[tactic(auto, unfolding(crate::specs::Pools::konst, crate::specs::Regions::interned))]
+#[tactic(auto, unfolding(crate::specs::Pools::konst))]
 pub(crate) fn konst(b: &mut Builder<'_>, bits: u32) -> ConstIdx
     ensures { Gave b.old b.new result.0 (konst bits) }
 {
-    let i = regions::CONSTS.intern(b.words, &mut b.state.consts, &[bits, SHARED]);
+    let i = regions::CONSTS.intern(b.words, &mut b.state.pools.consts, &[bits, SHARED]);
     ConstIdx(u32::from(i))
 }
 
-#[tactic(auto, unfolding(crate::specs::Pools::hash, crate::specs::Regions::interned))]
+#[tactic(auto, unfolding(crate::specs::Pools::hash))]
 pub(crate) fn hash(b: &mut Builder<'_>, h: u64) -> HashIdx
     ensures { Gave b.old b.new result.0 (hash h) }
 {
-    let i = regions::HASHES.intern(b.words, &mut b.state.hashes, &[high(h), low(h)]);
+    let i = regions::HASHES.intern(b.words, &mut b.state.pools.hashes, &[high(h), low(h)]);
     HashIdx(u32::from(i))
 }
 
@@ -47,17 +47,17 @@ fn text_place(at: usize) -> u32
 }
 
 // A name, by its hash; the first text stays.
-#[tactic(auto, unfolding(crate::specs::Pools::name, crate::specs::Regions::interned))]
+#[tactic(auto, unfolding(crate::specs::Pools::name))]
 pub(crate) fn name(b: &mut Builder<'_>, n: NameRef) -> NameIdx
     ensures { Gave b.old b.new result.0 (name n) }
 {
     let entry = [high(n.hash), low(n.hash), text_place(n.at)];
-    let i = regions::NAMES.intern(b.words, &mut b.state.names, &entry);
+    let i = regions::NAMES.intern(b.words, &mut b.state.pools.names, &entry);
     NameIdx(i)
 }
 
 // A member, by its own hash and the last one of its path.
-#[tactic(auto, unfolding(crate::specs::Pools::member, crate::specs::Regions::interned))]
+#[tactic(auto, unfolding(crate::specs::Pools::member))]
 pub(crate) fn member(b: &mut Builder<'_>, own: NameRef, last: NameRef) -> MemberIdx
     ensures { Gave b.old b.new result.0 (member own last) }
 {
@@ -69,16 +69,16 @@ pub(crate) fn member(b: &mut Builder<'_>, own: NameRef, last: NameRef) -> Member
         text_place(own.at),
         text_place(last.at),
     ];
-    let i = regions::MEMBERS.intern(b.words, &mut b.state.members, &entry);
+    let i = regions::MEMBERS.intern(b.words, &mut b.state.pools.members, &entry);
     MemberIdx(i)
 }
 
 // The slot of a temp, by its name.
-#[tactic(auto, unfolding(crate::specs::Pools::slot, crate::specs::Regions::interned))]
+#[tactic(auto, unfolding(crate::specs::Pools::slot))]
 fn slot(b: &mut Builder<'_>, named: NameIdx) -> TempIdx
     ensures { Gave b.old b.new result.0 (slot named.0) }
 {
-    let i = regions::TEMPS.intern(b.words, &mut b.state.temps, &[u32::from(named.0)]);
+    let i = regions::TEMPS.intern(b.words, &mut b.state.pools.temps, &[u32::from(named.0)]);
     TempIdx(i)
 }
 
@@ -91,7 +91,7 @@ pub(crate) fn is_identity(p: PostOp, bits: PostBits) -> bool
 }
 
 // A post, looked up by its bit patterns, which go beside it since no float keeps a NaN's; the identity is slot 0 and is not looked up.
-#[tactic(auto, unfolding(crate::specs::Pools::post, crate::specs::Regions::interned))]
+#[tactic(auto, unfolding(crate::specs::Pools::post))]
 pub(crate) fn post_of(b: &mut Builder<'_>, p: PostOp, bits: PostBits) -> PostIdx
     requires { p ≡ post_of (patterns bits) }
     ensures { Gave b.old b.new result.0 (post (patterns bits)) }
@@ -99,7 +99,11 @@ pub(crate) fn post_of(b: &mut Builder<'_>, p: PostOp, bits: PostBits) -> PostIdx
     if is_identity(p, bits) {
         return PostIdx::PLAIN;
     }
-    let i = regions::POSTS.intern(b.words, &mut b.state.posts, &[bits.scale, bits.offset]);
+    let i = regions::POSTS.intern(
+        b.words,
+        &mut b.state.pools.posts,
+        &[bits.scale, bits.offset],
+    );
     PostIdx(i.saturating_add(1))
 }
 

@@ -32,7 +32,7 @@ ghost use Rattle.lowering.specs.Nodes.{over, lowered_as};
 use answers::refusals::Refusal;
 use ast::header;
 use ast::rules::{Plain, Rule};
-use builder::State;
+use builder::{Marks, OpenCode, State};
 use code::segment::{Ends, Waiting};
 use depth::Depth;
 use inside::Inside;
@@ -44,6 +44,7 @@ use program::subs::Divisor;
 use program::{Depths, Flags, PostIdx};
 use steps::{flag, not_float_only, pop};
 use tree::Node;
+use workspace::counts::{Listed, Pools};
 
 // A builder whose refusals are those of the nine questions.
 pub(crate) type Builder<'a> = builder::Builder<'a, Refusal>;
@@ -71,31 +72,46 @@ pub fn lower(tree: &[u8], ws: &mut [u32]) -> State<Refusal>
     b.state
 }
 
-// Nothing is lowered yet.
-fn start() -> State<Refusal>
-    ensures { result ≡ R.start }
+// Nothing is in use.
+fn no_pools() -> Pools
+    ensures { result ≡ R.no_pools }
 {
-    State {
-        top: 0,
-        base: 0,
-        finished: 0,
-        waiting: false,
+    Pools {
         consts: 0,
         posts: 0,
         hashes: 0,
         names: 0,
         temps: 0,
         members: 0,
-        stores: 0,
-        paths: 0,
-        calls: 0,
-        arguments: 0,
+    }
+}
+
+// Nothing is lowered yet.
+fn start() -> State<Refusal>
+    ensures { result ≡ R.start }
+{
+    State {
+        pools: no_pools(),
+        listed: Listed {
+            stores: 0,
+            paths: 0,
+            calls: 0,
+            arguments: 0,
+        },
+        code: OpenCode {
+            top: 0,
+            base: 0,
+            finished: 0,
+            waiting: false,
+        },
         depth: Depth {
             now: Depths::NOTHING_OPEN,
             max: Depths::NOTHING_OPEN,
         },
-        flags: Flags::FLOAT_ONLY,
-        float_loop: true,
+        marks: Marks {
+            bits: Flags::FLOAT_ONLY,
+            float_loop: true,
+        },
         refusal: None,
     }
 }
@@ -505,7 +521,7 @@ fn query(b: &mut Builder<'_>, node: Node<'_>, levels: u16)
     };
     let count = node.count();
     steps::query_flags(b, count == 0);
-    let first = b.state.arguments;
+    let first = b.state.listed.arguments;
     let call = calls::begin_call(b, q, count);
     segs(b, node.first(), count, first, levels);
     put_post(b, node, Opcode::Call, 0, u32::from(call.0));
@@ -515,10 +531,10 @@ fn query(b: &mut Builder<'_>, node: Node<'_>, levels: u16)
 #[cycle(expression)]
 #[tactic(auto, unfolding(crate::specs::Rules::arguments))]
 fn segs(b: &mut Builder<'_>, a: Node<'_>, m: u16, first: u16, levels: u16)
-    ensures { Did b.old b.new (over a.entry levels R.arguments b.old.state.base b.old.state.waiting m a.entry.at first) }
+    ensures { Did b.old b.new (over a.entry levels R.arguments b.old.state.code.base b.old.state.code.waiting m a.entry.at first) }
 {
-    let base = b.state.base;
-    let waiting = b.state.waiting;
+    let base = b.state.code.base;
+    let waiting = b.state.code.waiting;
     for (i, argument) in (0..m).zip(a.siblings(m)) {
         b.open_segment();
         let inside = Inside {

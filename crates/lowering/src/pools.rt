@@ -105,10 +105,10 @@ impl<const WIDTH: usize, const KEY: usize> Region<WIDTH, KEY> {
     // appended entry takes, so a caller asks for no case. The hint has the callers for one word take it in: without it `expr` takes in `leaf`, and equal
     // strings are slower.
     #[inline]
-    #[tactic(auto, unfolding(crate::specs::Regions::interned, crate::specs::Regions::interned_count, crate::specs::Regions::interned_words))]
+    #[tactic(auto, unfolding(crate::specs::Regions::interned_count, crate::specs::Regions::interned_words))]
     pub(crate) fn intern(&self, ws: &mut [u32], n: &mut u16, words: &[u32; WIDTH]) -> u16
         ensures { Interns (hit ws.old self.now.from WIDTH (take KEY words.now)) n.old self.now.room ws.old (self.now.from + WIDTH * n.old) words.now ws.new
-            (record { index = result; count = n.new }) }
+            result n.new }
     {
         match self.find(ws, *n, words) {
             Some(i) => i,

@@ -95,8 +95,8 @@ slot_small : {tree : List ℕ} {c : Counts} {h : Held} {A : Abs} (o : OpenCall) 
 slot_small {h = h} {A = A} o os eo lt f r =
     let t = r.tables in
     let is = A.state.pools.calls in
-    let op : OpenCalls h.1 is h.0.calls (o ∷ os) = subst (λ (l : List OpenCall). OpenCalls h.1 is h.0.calls l) eo t.calls_held.the_open in
-    let wi = call_within h.1 h.0.arguments CALLS 0 is o.number (omega arith) t.calls_held.the_calls in
+    let op : OpenCalls h.1 is h.0.listed.calls (o ∷ os) = subst (λ (l : List OpenCall). OpenCalls h.1 is h.0.listed.calls l) eo t.calls_held.the_open in
+    let wi = call_within h.1 h.0.listed.arguments CALLS 0 is o.number (omega arith) t.calls_held.the_calls in
     omega arith
 
 module _ {tree : List ℕ} {c : Counts} where
@@ -117,7 +117,7 @@ module _ {tree : List ℕ} {c : Counts} where
       let g3 : Held = (g2.0, T.breaks_resolved g2.0 0 0 0 g2.1) in
       let r4 = aim_at (A.outer ++ A.code) [] (code_of f c A.state) false A.open_calls x.state g2 0 0 0 refl q3 r3 in
       let r5 = close_keep A.outer A.code (code_of f c A.state) A.wait A.open_calls x.state base g3 eb q r4 in
-      let v = g2.0.finished in
+      let v = g2.0.code.finished in
       let pl = pasts_length x.state.pools.segments 0 in
       let ev : v ≡ start_of f c A.state = omega arith in
       let A5 = mk A.outer A.code A.wait A.open_calls (after_segment f c A.state) in

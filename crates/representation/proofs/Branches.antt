@@ -46,7 +46,7 @@ const_same k c false A = refl
 const_run : (k : ℕ) (c : Counts) (b : Bool) (A : Abs) → A.wait ≡ b → const_a b k A ≡ run (put_const k) c A
 const_run k c b A e = subst (λ (w : Bool). const_a w k A ≡ run (put_const k) c A) e (const_same k c A.wait A)
 
-const_keep : {tree : List ℕ} {c : Counts} (k : ℕ) (b : Bool) (A : Abs) (h : Held) → h.0.waiting ≡ b → Fits (const_a b k A) → Content tree c h A
+const_keep : {tree : List ℕ} {c : Counts} (k : ℕ) (b : Bool) (A : Abs) (h : Held) → h.0.code.waiting ≡ b → Fits (const_a b k A) → Content tree c h A
     → Content tree c (cond b (W.emitted 0x0e00_0000 k (set_waiting false h.0, h.1)) (W.emitted 0x0100_0000 k h)) (const_a b k A)
 unfolding word_of
 const_keep {tree} {c} k true A h e f r = (emits {tree = tree} {c = c} (const_item true k)).keep (waits false A) (set_waiting false h.0, h.1) f (stopped A h r)
@@ -58,7 +58,7 @@ pub const_does : {tree : List ℕ} {c : Counts} (k : ℕ) → Does tree (put_con
 unfolding W.put_const
 const_does {tree} {c} k = ends _ (λ A. const_run k c A.wait A refl) (record {
   back = λ A f. back_code A (const_a A.wait k A) refl refl (omega (arith, length-append A.code (const_item A.wait k ∷ []))) f;
-  keep = λ A h f r. let e = r.beside.waiting_is in subst (λ (w : Bool). Content tree c (cond w (W.emitted 0x0e00_0000 k (set_waiting false h.0, h.1)) (W.emitted 0x0100_0000 k h)) (const_a A.wait k A)) (sym e) (const_keep k A.wait A h e f r);
+  keep = λ A h f r. let e = r.tables.code_held.waiting_is in subst (λ (w : Bool). Content tree c (cond w (W.emitted 0x0e00_0000 k (set_waiting false h.0, h.1)) (W.emitted 0x0100_0000 k h)) (const_a A.wait k A)) (sym e) (const_keep k A.wait A h e f r);
 })
 
 -- ---- a guard

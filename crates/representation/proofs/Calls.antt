@@ -111,8 +111,8 @@ module _ {tree : List ℕ} {c : Counts} where
       let ac = t.calls_held.argument_count in
       let l = length-append is (i ∷ []) in
       let fm = filled_more is i refl in
-      let at = CALLS + 4 * h.0.calls in
-      let es = v ∷ m ∷ n ∷ h.0.arguments ∷ [] in
+      let at = CALLS + 4 * h.0.listed.calls in
+      let es = v ∷ m ∷ n ∷ h.0.listed.arguments ∷ [] in
       let vs = sets h.1 at es in
       let a = sets_apart h.1 at es in
       let al = a.same_length in
@@ -122,15 +122,15 @@ module _ {tree : List ℕ} {c : Counts} where
       let w0 : get_or vs (CALLS + 4 * length is) 0 ≡ v = ap (λ (q : ℕ). get_or vs q 0) (p ∙ sym z) ∙ word 0 (omega arith) in
       let w1 : get_or vs (CALLS + 4 * length is + 1) 0 ≡ m = ap (λ (q : ℕ). get_or vs (q + 1) 0) p ∙ word 1 (omega arith) in
       let w2 : places vs (CALLS + 4 * length is) ≡ n = ap (λ (q : ℕ). get_or vs (q + 2) 0) p ∙ word 2 (omega arith) in
-      let w3 : first_place vs (CALLS + 4 * length is) ≡ h.0.arguments = ap (λ (q : ℕ). get_or vs (q + 3) 0) p ∙ word 3 (omega arith) in
-      let old = calls_keep h.1 vs h.0.arguments CALLS 0 is (λ j x y. a.below j (omega arith)) (λ j x y. a.above j (omega arith)) t.calls_held.the_calls in
-      let new = calls_snoc vs h.0.arguments n CALLS 0 is i refl w0 w1 w2 w3 old in
-      let opens = open_more vs is i h.0.calls os (open_keep h.1 vs h.0.arguments is os h.0.calls (omega arith) t.calls_held.the_calls (λ j x y. a.below j (omega arith)) (λ j x y. a.above j (omega arith)) t.calls_held.the_open) in
+      let w3 : first_place vs (CALLS + 4 * length is) ≡ h.0.listed.arguments = ap (λ (q : ℕ). get_or vs (q + 3) 0) p ∙ word 3 (omega arith) in
+      let old = calls_keep h.1 vs h.0.listed.arguments CALLS 0 is (λ j x y. a.below j (omega arith)) (λ j x y. a.above j (omega arith)) t.calls_held.the_calls in
+      let new = calls_snoc vs h.0.listed.arguments n CALLS 0 is i refl w0 w1 w2 w3 old in
+      let opens = open_more vs is i h.0.listed.calls os (open_keep h.1 vs h.0.listed.arguments is os h.0.listed.calls (omega arith) t.calls_held.the_calls (λ j x y. a.below j (omega arith)) (λ j x y. a.above j (omega arith)) t.calls_held.the_open) in
       let o = open_call n A in
       let head : OpenCallAt vs (is ++ (i ∷ [])) o = record { waits = pending_last is i refl; first_is = w3 ∙ ac; reserved_is = w2; fit = omega arith; starts_are = tt } in
       let opens' : OpenCalls vs (is ++ (i ∷ [])) (length is) os = subst (λ (b : ℕ). OpenCalls vs (is ++ (i ∷ [])) b os) cc opens in
-      let e : min (h.0.arguments + n) 65535 ≡ h.0.arguments + n = omega arith in
-      rw (lt-ltb h.0.calls 384 (omega arith), e)
+      let e : min (h.0.listed.arguments + n) 65535 ≡ h.0.listed.arguments + n = omega arith in
+      rw (lt-ltb h.0.listed.calls 384 (omega arith), e)
       (record {
         enough = omega (arith, al, en);
         beside = r.beside;
@@ -195,7 +195,7 @@ module _ {tree : List ℕ} {c : Counts} where
   start_keep A o os slot v h eo es lt f r =
       let t = r.tables in
       let is = A.state.pools.calls in
-      let op : OpenCalls h.1 is h.0.calls (o ∷ os) = subst (λ (l : List OpenCall). OpenCalls h.1 is h.0.calls l) eo t.calls_held.the_open in
+      let op : OpenCalls h.1 is h.0.listed.calls (o ∷ os) = subst (λ (l : List OpenCall). OpenCalls h.1 is h.0.listed.calls l) eo t.calls_held.the_open in
       let d = op.1 in
       let nb = op.0 in
       let fi = d.first_is in
@@ -205,15 +205,15 @@ module _ {tree : List ℕ} {c : Counts} where
       let en = r.enough in
       let p = CALLS + 4 * o.number in
       let k = o.number in
-      let wi = call_within h.1 h.0.arguments CALLS 0 is k (omega arith) t.calls_held.the_calls in
+      let wi = call_within h.1 h.0.listed.arguments CALLS 0 is k (omega arith) t.calls_held.the_calls in
       let small : slot < 384 = omega arith in
       let vs = set h.1 (ARGUMENTS + slot) v in
       let a : Apart h.1 vs (ARGUMENTS + slot) (ARGUMENTS + slot + 1) = record { same_length = length-set h.1 (ARGUMENTS + slot) v; below = λ j l. get_or-set_other h.1 (ARGUMENTS + slot) j v 0 (λ e. omega arith); above = λ j l. get_or-set_other h.1 (ARGUMENTS + slot) j v 0 (λ e. omega arith) } in
       let q : p + 4 ≤ ARGUMENTS = omega arith in
       let x : first_place h.1 p ≤ slot = omega arith in
       let y : slot < first_place h.1 p + places h.1 p = omega arith in
-      let cs = calls_skip h.1 vs slot a h.0.arguments CALLS 0 is k (omega arith) d.waits x y (omega arith) t.calls_held.the_calls in
-      let outer = open_skip h.1 vs slot a h.0.arguments is k os k (omega arith) (omega arith) (omega arith) x t.calls_held.the_calls op.2 in
+      let cs = calls_skip h.1 vs slot a h.0.listed.arguments CALLS 0 is k (omega arith) d.waits x y (omega arith) t.calls_held.the_calls in
+      let outer = open_skip h.1 vs slot a h.0.listed.arguments is k os k (omega arith) (omega arith) (omega arith) x t.calls_held.the_calls op.2 in
       let fe = call_words h.1 vs slot a p (p + 3) q (omega arith) in
       let old = starts_keep h.1 vs p o.starts fe (λ j u v. a.below j (omega arith)) d.starts_are in
       let w = weigh_length 1 o.starts in
@@ -222,7 +222,7 @@ module _ {tree : List ℕ} {c : Counts} where
       let new : get_or vs (ARGUMENTS + first_place vs p + weigh 1 o.starts) 0 ≡ v = ap (λ (j : ℕ). get_or vs j 0) pl ∙ get_or-set_same h.1 (ARGUMENTS + slot) v 0 (omega arith) in
       let la = length-append o.starts (v ∷ []) in
       let head : OpenCallAt vs is (grown v o) = record { waits = d.waits; first_is = fe ∙ fi; reserved_is = call_words h.1 vs slot a p (p + 2) q (omega arith) ∙ ri; fit = omega (arith, la, lt); starts_are = rows_snoc 1 (WordAt vs) (ARGUMENTS + first_place vs p) o.starts v old new } in
-      let sum : h.0.arguments ≡ reserved_by (grown v o ∷ os) + filled is = ac ∙ ap (λ (l : List OpenCall). reserved_by l + filled is) eo in
+      let sum : h.0.listed.arguments ≡ reserved_by (grown v o ∷ os) + filled is = ac ∙ ap (λ (l : List OpenCall). reserved_by l + filled is) eo in
       subst (λ (z : Bool). Content tree c (h.0, cond z vs h.1) (mk A.outer A.code A.wait (grown v o ∷ os) A.state)) (sym (lt-ltb slot 384 small))
       (record {
         enough = omega (arith, al, en);

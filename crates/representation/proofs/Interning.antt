@@ -1,7 +1,7 @@
 -- The builder's pools: what interning makes of the words is what the lowering's definition makes of its pools, and a lowering that goes on with the entry's index. Assumes nothing.
-use Rattle.std.proofs.Common.{rules, ◌≡◌, refl, sym, subst, Bool, true, false, cond, List, [], ◌∷◌, ℕ, suc, ◌+◌, ◌*◌, ◌≤◌, ◌<◌, arith, length}
-use native.Mathlib.Decide.{ℕ_discrete}
-use lib.Bits.{bit_or}
+use Rattle.std.proofs.Common.{rules, ◌≡◌, refl, sym, subst, Bool, true, false, cond, List, [], ◌∷◌, ℕ, suc, ◌+◌, ◌*◌, ◌≤◌, ◌<◌, arith, length, take}
+use native.Mathlib.Nat.{mul-suc}
+use Rattle.std.proofs.Math.Nat.{mul-le-mul_left}
 use Rattle.ast.specs.Tree.{Name}
 use Rattle.numeric.specs.Post.{Post, is_identity}
 use Rattle.program.specs.Kinds.{USES_TEMPS}
@@ -9,24 +9,24 @@ use Rattle.program.specs.Program.{Counts}
 use Rattle.payload.specs.declared.NameRef.{NameRef}
 use Rattle.payload.specs.Payloads.{named}
 use Rattle.semantics.specs.Positions.{slot, intern, pair_discrete}
-use Rattle.semantics.specs.State.{MemberRead, Pools, State, set_pools, set_consts, set_posts, set_hashes, set_names, set_temps, set_members, set_flags, sets}
-use Rattle.semantics.specs.Pieces.{Lowering, itself, hash_key, post_key, post_if, with_const, with_hash, with_name, with_temp, with_member, with_post}
-use Rattle.workspace.specs.Layout.{CONSTS, POSTS, HASHES, NAMES, TEMPS, MEMBERS, STORES}
-use Rattle.card.specs.Holds.{PostIs, HashIs, NameIs}
-use Rattle.lowering.specs.Search.{pair_hit}
+use Rattle.semantics.specs.State.{Pools, State, set_pools, set_flags, sets}
+use Rattle.semantics.specs.Pieces.{Lowering, post_key, post_if, with_const, with_hash, with_name, with_temp, with_member, with_post}
+use Rattle.workspace.specs.Layout.{CONSTS, STORES}
+use Rattle.workspace.specs.declared.counts.Pools as N
+use Rattle.lowering.specs.Search.{hit}
 use Rattle.lowering.specs.Regions.{interned_index}
-use Rattle.lowering.specs.Held as S
-use Rattle.builder.specs.Fields as F
 use Rattle.lowering.specs.Held.{Held}
+use Rattle.lowering.specs.Steps.{flagged}
 use Rattle.lowering.specs.Pools as B
-use Rattle.lowering.specs.Pools.{Found, found, text_place, after}
+use Rattle.lowering.specs.Pools.{Found, interned, behind_identity}
 use Rattle.lowering.specs.Parts as L
 use Rattle.lowering.specs.Parts.{Step, going}
-use Rattle.representation.proofs.Rows.{Local, Apart}
-use Rattle.representation.proofs.Represents.{PoolsHeld, WordAt, ConstIs, MemberAt, Abs, Fits, Table, Content, Does, Enters, run, on_state}
-use Rattle.representation.proofs.Keeps.{agree_below, agree_above, word_local, const_local, post_local, hash_local, name_local, member_local, table_keep, pools_changed}
-use Rattle.representation.proofs.Pools.{length_intern, slot_within, apart_wider, interned_apart, table_slot, table_interned}
-use Rattle.representation.proofs.Entries.{Keyed, word_keyed, const_keyed, hash_keyed, post_keyed, name_keyed, member_keyed, TextOf, read_of}
+use Rattle.lowering.proofs.Hits.{hit_decides}
+use Rattle.representation.proofs.Rows.{Apart}
+use Rattle.representation.proofs.Represents.{Pooled, consts, posts, hashes, names, temps, members, Row, row, PoolHeld, pool_held, all_held, Abs, Fits, Table, Content, Does, Enters, run, on_state}
+use Rattle.representation.proofs.Keeps.{entries, end_of, pool_inside, pool_fits, pool_keep, pools_changed}
+use Rattle.representation.proofs.Pools.{length_intern, slot_within, apart_wider, apart_agree, interned_apart, table_slot, table_interned}
+use Rattle.representation.proofs.Entries.{Keyed, const_keyed, slot_keyed, hash_keyed, post_keyed, name_keyed, member_keyed, TextOf, read_of}
 
 -- ---- the law
 
@@ -39,211 +39,117 @@ with_does {tree} {g} {k} {E} m {f} {F} {c} d = record {
       ((d (k A.state)).keep (on_state g A) ((E h).0.state, (E h).1) x (m.keep c A h b y));
 }
 
--- ---- the six pools exchanged
+-- ---- a pool and its region
 
-abbrev pooled : List ℕ → List Post → List ℕ → List Name → List ℕ → List MemberRead → State → State
-pooled cs ps hs ns ts ms s = set_pools (record { consts = cs; posts = ps; hashes = hs; names = ns; temps = ts; members = ms; stores = s.pools.stores; calls = s.pools.calls; segments = s.pools.segments }) s
+module _ (tree : List ℕ) (i : Pooled) where
+  abbrev with_list : List (row tree i).Entry → State → State
+  with_list xs s = set_pools ((row tree i).pool.set xs s.pools) s
 
-abbrev counted : ℕ → ℕ → ℕ → ℕ → ℕ → ℕ → S.State → S.State
-counted n1 n2 n3 n4 n5 n6 s = F.set_consts n1 (F.set_posts n2 (F.set_hashes n3 (F.set_names n4 (F.set_temps n5 (F.set_members n6 s)))))
+  abbrev pub state_of : (row tree i).Entry → State → State
+  state_of v s = let p = (row tree i).pool in with_list (intern p.key p.dec v (p.get s.pools)) s
 
-module _ (A : Abs) where
-  content_pools : (tree : List ℕ) (c : Counts) (h : Held) → Fits A → Content tree c h A → (vs : List ℕ) → Apart h.1 vs CONSTS STORES →
-      {n1 n2 n3 n4 n5 n6 : ℕ} {cs : List ℕ} {ps : List Post} {hs : List ℕ} {ns : List Name} {ts : List ℕ} {ms : List MemberRead} →
-      PoolsHeld tree vs n1 n2 n3 n4 n5 n6 cs ps hs ns ts ms → Content tree c (counted n1 n2 n3 n4 n5 n6 h.0, vs) (on_state (pooled cs ps hs ns ts ms) A)
-  content_pools tree c h f x vs a t =
-      record {
-        enough = omega arith;
+  abbrev pub index_of : (row tree i).Entry → State → ℕ
+  index_of v s = let p = (row tree i).pool in slot p.key p.dec v 0 (p.get s.pools)
+
+module _ (tree : List ℕ) where
+  -- a list that is set is the pool's, and all but the interned pools stay
+  got : (i : Pooled) (xs : List (row tree i).Entry) (Q : Pools) → (row tree i).pool.get ((row tree i).pool.set xs Q) ≡ xs
+  got consts xs Q = refl
+  got i xs Q = refl
+
+  set_only : (i : Pooled) (xs : List (row tree i).Entry) (Q : Pools) → let R = (row tree i).pool.set xs Q in
+      record Q { consts = R.consts; posts = R.posts; hashes = R.hashes; names = R.names; temps = R.temps; members = R.members } ≡ R
+  set_only consts xs Q = refl
+  set_only i xs Q = refl
+
+  -- a longer list fits no better
+  shorter : (i : Pooled) (A : Abs) (xs : List (row tree i).Entry) → length ((row tree i).pool.get A.state.pools) ≤ length xs → Fits (on_state (with_list tree i xs) A) → Fits A
+  shorter consts A xs l f = search rules
+  shorter i A xs l f = search rules
+
+  -- words of region i have changed, and are a new table: the pools are that table, and for the others what they were
+  put : (ws vs : List ℕ) (A : Abs) → Fits A → (n : N.Pools) (i j : Pooled) (m : ℕ) (xs : List (row tree i).Entry) → Apart ws vs (row tree i).region.from (end_of tree i)
+      → Table (row tree i).region.width ((row tree i).At vs) (row tree i).region.from m xs → PoolHeld tree ws n A.state.pools j
+      → PoolHeld tree vs ((row tree i).region.set_count m n) ((row tree i).pool.set xs A.state.pools) j
+  put ws vs A f n consts consts m xs a y t = y
+  put ws vs A f n posts posts m xs a y t = y
+  put ws vs A f n hashes hashes m xs a y t = y
+  put ws vs A f n names names m xs a y t = y
+  put ws vs A f n temps temps m xs a y t = y
+  put ws vs A f n members members m xs a y t = y
+  put ws vs A f n i j m xs a y t = pool_keep tree ws vs A f j (apart_agree a (λ k p q l. omega arith)) n t
+
+  changed : (i : Pooled) (c : Counts) (A : Abs) (h : Held) (vs : List ℕ) (m : ℕ) (xs : List (row tree i).Entry) → Fits A → Content tree c h A → Apart h.1 vs (row tree i).region.from (end_of tree i)
+      → Table (row tree i).region.width ((row tree i).At vs) (row tree i).region.from m xs → Content tree c (B.set_pools ((row tree i).region.set_count m h.0.pools) h.0, vs) (on_state (with_list tree i xs) A)
+  changed i c A h vs m xs f x a y =
+      let r = row tree i in
+      let n = h.0.pools in
+      let Q = r.pool.set xs A.state.pools in
+      let b = pool_inside tree i in
+      subst (λ (R : Pools). Content tree c (B.set_pools (r.region.set_count m n) h.0, vs) (on_state (set_pools R) A)) (set_only i xs A.state.pools)
+      (record {
+        enough = omega (arith, x.enough, a.same_length);
         beside = x.beside;
-        tables = pools_changed tree h.1 vs A f a x.tables t;
-      }
+        tables = pools_changed tree h.1 vs A f (apart_wider a CONSTS STORES b.0 b.1) x.tables {m = r.region.set_count m n} Q
+            (all_held tree vs (r.region.set_count m n) Q λ j. put h.1 vs A f n i j m xs a y (pool_held tree h.1 n A.state.pools x.tables.pools_held j));
+      })
 
--- ---- names, slots of temps and posts: the state after an entry is interned, and the entry's index
+module _ (tree : List ℕ) (i : Pooled) where
+  abbrev r : Row tree
+  r = row tree i
 
-abbrev pub name_state : Name → State → State
-name_state v s = set_pools (set_names (intern hash_key ℕ_discrete v s.pools.names) s.pools) s
+  size : (A : Abs) (xs : List r.Entry) → Fits (on_state (with_list tree i xs) A) → length xs ≤ r.region.room
+  size A xs f = subst (λ (ys : List r.Entry). length ys ≤ r.region.room) (got tree i xs A.state.pools) (pool_fits tree i (on_state (with_list tree i xs) A) f)
 
-abbrev pub name_index : Name → State → ℕ
-name_index v s = slot hash_key ℕ_discrete v 0 s.pools.names
+  module _ {v : r.Entry} {entry : List ℕ} (D : Keyed tree i v entry) where
+    abbrev found_at : List ℕ → ℕ → ℕ
+    found_at ws n = interned_index (hit ws r.region.from r.region.width (take r.region.key entry)) n
 
-abbrev pub slot_state : ℕ → State → State
-slot_state v s = set_pools (set_temps (intern itself ℕ_discrete v s.pools.temps) s.pools) s
+    within : (n : ℕ) → n < r.region.room → r.region.from + r.region.width * n + length entry ≤ end_of tree i
+    within n l = let e = D.size in let w = mul-le-mul_left r.region.width l in let m = mul-suc r.region.width n in omega arith
 
-abbrev pub slot_index : ℕ → State → ℕ
-slot_index v s = slot itself ℕ_discrete v 0 s.pools.temps
+    back : (A : Abs) → Fits (on_state (state_of tree i v) A) → Fits A
+    back A f = shorter tree i A _ (length_intern r.pool.key r.pool.dec v (r.pool.get A.state.pools)) f
 
-abbrev pub pooled_state : Post → State → State
-pooled_state v s = set_pools (set_posts (intern post_key pair_discrete v s.pools.posts) s.pools) s
+    index : (c : Counts) (A : Abs) (h : Held) → Content tree c h A → found_at h.1 (r.region.count h.0.pools) ≡ index_of tree i v A.state
+    index c A h x =
+        table_slot r.pool.key r.pool.dec v r.region.width r.At r.region.from h.1 (r.region.count h.0.pools) (r.pool.get A.state.pools) (hit h.1 r.region.from r.region.width (take r.region.key entry))
+        (λ j y q. hit_decides h.1 r.region.from r.region.width (take r.region.key entry) j (r.pool.dec (r.pool.key y) (r.pool.key v)) (λ s. D.found h.1 _ y q s) (λ e. D.stands h.1 _ y q e))
+        (pool_held tree h.1 h.0.pools A.state.pools x.tables.pools_held i)
 
-abbrev pub pooled_index : Post → State → ℕ
-pooled_index v s = slot post_key pair_discrete v 0 s.pools.posts
+    -- interning the entry in the words is interning it in the list
+    pub enters : Enters tree (state_of tree i v) (index_of tree i v) (interned r.region entry)
+    enters = record {
+      back = back;
+      index = λ c A h f x. index c A h x;
+      keep = λ c A h f x.
+          let n = r.region.count h.0.pools in
+          let k = found_at h.1 n in
+          let at = r.region.from + r.region.width * n in
+          let e = x.enough in
+          changed tree i c A h _ _ _ (back A f) x
+          (interned_apart k n r.region.room h.1 at entry r.region.from (end_of tree i) (omega arith) (within n))
+          (table_interned r.pool.key r.pool.dec v r.region.width r.At r.region.from (entries tree i) entry D.stored k n r.region.room h.1 at (r.pool.get A.state.pools) (index c A h x) refl
+          (λ l. let w = within n l in let b = (pool_inside tree i).1 in omega arith) (size A _ f) (pool_held tree h.1 h.0.pools A.state.pools x.tables.pools_held i));
+    }
 
--- a temp: USES_TEMPS, its name, then its slot
-abbrev pub uses_temps : State → State
-uses_temps s = set_flags (sets USES_TEMPS s.flags) s
-
-abbrev pub temp_state : Name → State → State
-temp_state v s = slot_state (name_index v (uses_temps s)) (name_state v (uses_temps s))
-
-abbrev pub temp_index : Name → State → ℕ
-temp_index v s = slot_index (name_index v (uses_temps s)) (name_state v (uses_temps s))
-
--- ---- a region with room for a number of entries, from o up to e: its pool, and its count
-
-pub record Region (tree : List ℕ) {X : Type 0} (w : ℕ) (Q : List ℕ → ℕ → X → Type 0) (o e room : ℕ) (pool : Pools → List X) (set_pool : List X → Pools → Pools) (count : S.State → ℕ) (set_count : ℕ → S.State → S.State) : Type 0 where
-  pub entries : Local w Q
-  pub fits : (A : Abs) (xs : List X) → length (pool A.state.pools) ≤ length xs → Fits (on_state (λ s. set_pools (set_pool xs s.pools) s) A) → Fits A
-  pub size : (A : Abs) (xs : List X) → Fits (on_state (λ s. set_pools (set_pool xs s.pools) s) A) → length xs ≤ room
-  pub table : (c : Counts) (A : Abs) (h : Held) → Content tree c h A → Table w (Q h.1) o (count h.0) (pool A.state.pools)
-  -- only its words have changed, and they are a new table
-  pub changed : (c : Counts) (A : Abs) (h : Held) (vs : List ℕ) (n : ℕ) (xs : List X) → Fits A → Content tree c h A → Apart h.1 vs o e → Table w (Q vs) o n xs → Content tree c (set_count n h.0, vs) (on_state (λ s. set_pools (set_pool xs s.pools) s) A)
-
--- the entry is interned in the region
-pub region_enters : {tree : List ℕ} {X : Type 0} {w : ℕ} {Q : List ℕ → ℕ → X → Type 0} {o e room : ℕ} {pool : Pools → List X} {set_pool : List X → Pools → Pools} {count : S.State → ℕ} {set_count : ℕ → S.State → S.State} → Region tree w Q o e room pool set_pool count set_count →
-    {K : Type 0} {key : X → K} {dec : (a b : K) → Dec (a ≡ b)} {v : X} {entry : List ℕ} {hit : List ℕ → ℕ → Bool} → Keyed key dec v w Q o entry hit →
-    (at : ℕ → ℕ) → ((n : ℕ) → at n ≡ o + w * n) → ((n : ℕ) → n < room → at n + length entry ≤ e) → e ≤ 16384 →
-    Enters tree (λ s. set_pools (set_pool (intern key dec v (pool s.pools)) s.pools) s) (λ s. slot key dec v 0 (pool s.pools))
-    (λ h. found (λ n. set_count n h.0) (interned_index (hit h.1) (count h.0)) (count h.0) room h.1 (at (count h.0)) entry)
-region_enters {tree} {X} {w} {Q} {o} {e} {room} {pool} {set_pool} {count} {set_count} R {K} {key} {dec} {v} {entry} {hit} D at place inside end = record {
-  back = back;
-  index = λ c A h f x. index c A h x;
-  keep = λ c A h f x.
-      let n = count h.0 in
-      let k = interned_index (hit h.1) n in
-      let p = place n in
-      R.changed c A h _ _ _ (back A f) x
-      (interned_apart k n room h.1 (at n) entry o e (omega arith) (inside n))
-      (table_interned key dec v w Q o R.entries entry D.stored k n room h.1 (at n) (pool A.state.pools) (index c A h x) p (λ l. let i = inside n l in omega arith) (R.size A _ f) (R.table c A h x));
-}
-  where
-    back : (A : Abs) → Fits (on_state (λ s. set_pools (set_pool (intern key dec v (pool s.pools)) s.pools) s) A) → Fits A
-    back A f = R.fits A _ (length_intern key dec v (pool A.state.pools)) f
-
-    index : (c : Counts) (A : Abs) (h : Held) → Content tree c h A → interned_index (hit h.1) (count h.0) ≡ slot key dec v 0 (pool A.state.pools)
-    index c A h x = table_slot key dec v w Q o h.1 (count h.0) (pool A.state.pools) (hit h.1) (D.decides h.1) (R.table c A h x)
-
--- ---- the six regions
+-- ---- names, slots of temps and posts
 
 module _ (tree : List ℕ) where
-  pub consts_region : Region tree 2 ConstIs CONSTS POSTS 384 (λ P. P.consts) set_consts (λ s. s.consts) F.set_consts
-  consts_region = record {
-    entries = const_local;
-    fits = λ A xs l f. search rules;
-    size = λ A xs f. f.consts;
-    table = λ c A h x. x.tables.pools_held.the_consts;
-    changed = λ c A h vs n xs b x a y. content_pools A tree c h b x vs (apart_wider a CONSTS STORES (omega arith) (omega arith)) (record {
-      the_consts = y;
-      the_posts = table_keep 2 PostIs post_local h.1 vs POSTS _ _ HASHES (omega (arith, b.posts)) (agree_above a (omega arith)) x.tables.pools_held.the_posts;
-      the_hashes = table_keep 2 HashIs hash_local h.1 vs HASHES _ _ NAMES (omega (arith, b.hashes)) (agree_above a (omega arith)) x.tables.pools_held.the_hashes;
-      the_names = table_keep 3 (NameIs tree) (name_local tree) h.1 vs NAMES _ _ TEMPS (omega (arith, b.names)) (agree_above a (omega arith)) x.tables.pools_held.the_names;
-      the_temps = table_keep 1 WordAt word_local h.1 vs TEMPS _ _ MEMBERS (omega (arith, b.temps)) (agree_above a (omega arith)) x.tables.pools_held.the_temps;
-      the_members = table_keep 6 (MemberAt tree) (member_local tree) h.1 vs MEMBERS _ _ STORES (omega (arith, b.members)) (agree_above a (omega arith)) x.tables.pools_held.the_members;
-    });
-  }
-
-  pub posts_region : Region tree 2 PostIs POSTS HASHES 384 (λ P. P.posts) set_posts (λ s. s.posts) F.set_posts
-  posts_region = record {
-    entries = post_local;
-    fits = λ A xs l f. search rules;
-    size = λ A xs f. f.posts;
-    table = λ c A h x. x.tables.pools_held.the_posts;
-    changed = λ c A h vs n xs b x a y. content_pools A tree c h b x vs (apart_wider a CONSTS STORES (omega arith) (omega arith)) (record {
-      the_consts = table_keep 2 ConstIs const_local h.1 vs CONSTS _ _ POSTS (omega (arith, b.consts)) (agree_below a (omega arith)) x.tables.pools_held.the_consts;
-      the_posts = y;
-      the_hashes = table_keep 2 HashIs hash_local h.1 vs HASHES _ _ NAMES (omega (arith, b.hashes)) (agree_above a (omega arith)) x.tables.pools_held.the_hashes;
-      the_names = table_keep 3 (NameIs tree) (name_local tree) h.1 vs NAMES _ _ TEMPS (omega (arith, b.names)) (agree_above a (omega arith)) x.tables.pools_held.the_names;
-      the_temps = table_keep 1 WordAt word_local h.1 vs TEMPS _ _ MEMBERS (omega (arith, b.temps)) (agree_above a (omega arith)) x.tables.pools_held.the_temps;
-      the_members = table_keep 6 (MemberAt tree) (member_local tree) h.1 vs MEMBERS _ _ STORES (omega (arith, b.members)) (agree_above a (omega arith)) x.tables.pools_held.the_members;
-    });
-  }
-
-  pub hashes_region : Region tree 2 HashIs HASHES NAMES 384 (λ P. P.hashes) set_hashes (λ s. s.hashes) F.set_hashes
-  hashes_region = record {
-    entries = hash_local;
-    fits = λ A xs l f. search rules;
-    size = λ A xs f. f.hashes;
-    table = λ c A h x. x.tables.pools_held.the_hashes;
-    changed = λ c A h vs n xs b x a y. content_pools A tree c h b x vs (apart_wider a CONSTS STORES (omega arith) (omega arith)) (record {
-      the_consts = table_keep 2 ConstIs const_local h.1 vs CONSTS _ _ POSTS (omega (arith, b.consts)) (agree_below a (omega arith)) x.tables.pools_held.the_consts;
-      the_posts = table_keep 2 PostIs post_local h.1 vs POSTS _ _ HASHES (omega (arith, b.posts)) (agree_below a (omega arith)) x.tables.pools_held.the_posts;
-      the_hashes = y;
-      the_names = table_keep 3 (NameIs tree) (name_local tree) h.1 vs NAMES _ _ TEMPS (omega (arith, b.names)) (agree_above a (omega arith)) x.tables.pools_held.the_names;
-      the_temps = table_keep 1 WordAt word_local h.1 vs TEMPS _ _ MEMBERS (omega (arith, b.temps)) (agree_above a (omega arith)) x.tables.pools_held.the_temps;
-      the_members = table_keep 6 (MemberAt tree) (member_local tree) h.1 vs MEMBERS _ _ STORES (omega (arith, b.members)) (agree_above a (omega arith)) x.tables.pools_held.the_members;
-    });
-  }
-
-  pub names_region : Region tree 3 (NameIs tree) NAMES TEMPS 256 (λ P. P.names) set_names (λ s. s.names) F.set_names
-  names_region = record {
-    entries = (name_local tree);
-    fits = λ A xs l f. search rules;
-    size = λ A xs f. f.names;
-    table = λ c A h x. x.tables.pools_held.the_names;
-    changed = λ c A h vs n xs b x a y. content_pools A tree c h b x vs (apart_wider a CONSTS STORES (omega arith) (omega arith)) (record {
-      the_consts = table_keep 2 ConstIs const_local h.1 vs CONSTS _ _ POSTS (omega (arith, b.consts)) (agree_below a (omega arith)) x.tables.pools_held.the_consts;
-      the_posts = table_keep 2 PostIs post_local h.1 vs POSTS _ _ HASHES (omega (arith, b.posts)) (agree_below a (omega arith)) x.tables.pools_held.the_posts;
-      the_hashes = table_keep 2 HashIs hash_local h.1 vs HASHES _ _ NAMES (omega (arith, b.hashes)) (agree_below a (omega arith)) x.tables.pools_held.the_hashes;
-      the_names = y;
-      the_temps = table_keep 1 WordAt word_local h.1 vs TEMPS _ _ MEMBERS (omega (arith, b.temps)) (agree_above a (omega arith)) x.tables.pools_held.the_temps;
-      the_members = table_keep 6 (MemberAt tree) (member_local tree) h.1 vs MEMBERS _ _ STORES (omega (arith, b.members)) (agree_above a (omega arith)) x.tables.pools_held.the_members;
-    });
-  }
-
-  pub temps_region : Region tree 1 WordAt TEMPS MEMBERS 256 (λ P. P.temps) set_temps (λ s. s.temps) F.set_temps
-  temps_region = record {
-    entries = word_local;
-    fits = λ A xs l f. search rules;
-    size = λ A xs f. f.temps;
-    table = λ c A h x. x.tables.pools_held.the_temps;
-    changed = λ c A h vs n xs b x a y. content_pools A tree c h b x vs (apart_wider a CONSTS STORES (omega arith) (omega arith)) (record {
-      the_consts = table_keep 2 ConstIs const_local h.1 vs CONSTS _ _ POSTS (omega (arith, b.consts)) (agree_below a (omega arith)) x.tables.pools_held.the_consts;
-      the_posts = table_keep 2 PostIs post_local h.1 vs POSTS _ _ HASHES (omega (arith, b.posts)) (agree_below a (omega arith)) x.tables.pools_held.the_posts;
-      the_hashes = table_keep 2 HashIs hash_local h.1 vs HASHES _ _ NAMES (omega (arith, b.hashes)) (agree_below a (omega arith)) x.tables.pools_held.the_hashes;
-      the_names = table_keep 3 (NameIs tree) (name_local tree) h.1 vs NAMES _ _ TEMPS (omega (arith, b.names)) (agree_below a (omega arith)) x.tables.pools_held.the_names;
-      the_temps = y;
-      the_members = table_keep 6 (MemberAt tree) (member_local tree) h.1 vs MEMBERS _ _ STORES (omega (arith, b.members)) (agree_above a (omega arith)) x.tables.pools_held.the_members;
-    });
-  }
-
-  pub members_region : Region tree 6 (MemberAt tree) MEMBERS STORES 256 (λ P. P.members) set_members (λ s. s.members) F.set_members
-  members_region = record {
-    entries = (member_local tree);
-    fits = λ A xs l f. search rules;
-    size = λ A xs f. f.members;
-    table = λ c A h x. x.tables.pools_held.the_members;
-    changed = λ c A h vs n xs b x a y. content_pools A tree c h b x vs (apart_wider a CONSTS STORES (omega arith) (omega arith)) (record {
-      the_consts = table_keep 2 ConstIs const_local h.1 vs CONSTS _ _ POSTS (omega (arith, b.consts)) (agree_below a (omega arith)) x.tables.pools_held.the_consts;
-      the_posts = table_keep 2 PostIs post_local h.1 vs POSTS _ _ HASHES (omega (arith, b.posts)) (agree_below a (omega arith)) x.tables.pools_held.the_posts;
-      the_hashes = table_keep 2 HashIs hash_local h.1 vs HASHES _ _ NAMES (omega (arith, b.hashes)) (agree_below a (omega arith)) x.tables.pools_held.the_hashes;
-      the_names = table_keep 3 (NameIs tree) (name_local tree) h.1 vs NAMES _ _ TEMPS (omega (arith, b.names)) (agree_below a (omega arith)) x.tables.pools_held.the_names;
-      the_temps = table_keep 1 WordAt word_local h.1 vs TEMPS _ _ MEMBERS (omega (arith, b.temps)) (agree_below a (omega arith)) x.tables.pools_held.the_temps;
-      the_members = y;
-    });
-  }
-
--- ---- interning
-
-module _ (tree : List ℕ) where
-  pub name_enters : (r : NameRef) → TextOf tree r → Enters tree (name_state (named tree r)) (name_index (named tree r)) (B.name r)
+  pub name_enters : (r : NameRef) → TextOf tree r → Enters tree (state_of tree names (named tree r)) (index_of tree names (named tree r)) (B.name r)
   unfolding B.name
-  name_enters r g = region_enters (names_region tree) (name_keyed tree r NAMES g) (λ n. NAMES + 3 * n) (λ n. omega arith) (λ n l. omega arith) (omega arith)
+  name_enters r g = enters tree names (name_keyed tree r g)
 
-  pub slot_enters : (v : ℕ) → Enters tree (slot_state v) (slot_index v) (B.slot v)
+  pub slot_enters : (v : ℕ) → Enters tree (state_of tree temps v) (index_of tree temps v) (B.slot v)
   unfolding B.slot
-  slot_enters v = region_enters (temps_region tree) (word_keyed v TEMPS) (λ n. TEMPS + n) (λ n. omega arith) (λ n l. omega arith) (omega arith)
-
-  -- a post that is no identity, as one of the pool
-  abbrev pooled_found : Post → Held → Found
-  pooled_found v h = found (λ n. F.set_posts n h.0) (interned_index (pair_hit h.1 POSTS v.scale v.offset) h.0.posts) h.0.posts 384 h.1 (POSTS + 2 * h.0.posts) (v.scale ∷ v.offset ∷ [])
-
-  pooled_enters : (v : Post) → Enters tree (pooled_state v) (pooled_index v) (pooled_found v)
-  pooled_enters v = region_enters (posts_region tree) (post_keyed v POSTS) (λ n. POSTS + 2 * n) (λ n. omega arith) (λ n l. omega arith) (omega arith)
+  slot_enters v = enters tree temps (slot_keyed tree v)
 
   -- the identity is post 0, and is not looked up
-  post_if_enters : (b : Bool) (v : Post) → Enters tree (λ s. cond b s (pooled_state v s)) (λ s. cond b 0 (suc (pooled_index v s))) (λ h. cond b (record { state = h.0; index = 0 }, h.1) (record { state = (pooled_found v h).0.state; index = after (pooled_found v h).0.index }, (pooled_found v h).1))
+  post_if_enters : (b : Bool) (v : Post) → Enters tree (λ s. cond b s (state_of tree posts v s)) (λ s. cond b 0 (suc (index_of tree posts v s)))
+      (λ h. cond b (record { state = h.0; index = 0 }, h.1) (behind_identity (interned B.post_pool (v.scale ∷ v.offset ∷ []) h)))
   post_if_enters true v = record { back = λ A f. f; index = λ c A h f x. refl; keep = λ c A h f x. x }
   post_if_enters false v =
-      let m = pooled_enters v in
+      let m = enters tree posts (post_keyed tree v) in
       record {
         back = m.back;
         index = λ c A h f x.
@@ -254,38 +160,50 @@ module _ (tree : List ℕ) where
         keep = m.keep;
       }
 
--- ---- temps
+-- ---- temps: USES_TEMPS, its name, then its slot
 
-content_flags : (tree : List ℕ) (c : Counts) (A : Abs) (h : Held) → Content tree c h A → Content tree c (F.set_flags (bit_or h.0.flags USES_TEMPS) h.0, h.1) (on_state uses_temps A)
-unfolding sets
+abbrev uses_temps : State → State
+uses_temps s = set_flags (sets USES_TEMPS s.flags) s
+
+content_flags : (tree : List ℕ) (c : Counts) (A : Abs) (h : Held) → Content tree c h A → Content tree c (flagged USES_TEMPS h.0, h.1) (on_state uses_temps A)
+unfolding flagged sets
 content_flags tree c A h x = search rules
 
 module _ (tree : List ℕ) where
   abbrev flagged_name : NameRef → Held → Held
-  flagged_name r h = (F.set_flags (bit_or (B.name r h).0.state.flags USES_TEMPS) (B.name r h).0.state, (B.name r h).1)
+  flagged_name r h = (flagged USES_TEMPS (B.name r h).0.state, (B.name r h).1)
 
-  pub temp_enters : (r : NameRef) → TextOf tree r → Enters tree (temp_state (named tree r)) (temp_index (named tree r)) (B.temp r)
+  abbrev temp_state : Name → State → State
+  temp_state v s = state_of tree temps (index_of tree names v (uses_temps s)) (state_of tree names v (uses_temps s))
+
+  abbrev temp_index : Name → State → ℕ
+  temp_index v s = index_of tree temps (index_of tree names v (uses_temps s)) (state_of tree names v (uses_temps s))
+
+  temp_enters : (r : NameRef) → TextOf tree r → Enters tree (temp_state (named tree r)) (temp_index (named tree r)) (B.temp r)
   unfolding B.temp
   temp_enters r g =
       let v = named tree r in
       let m = name_enters tree r g in
       record {
-        back = λ A f. m.back A (((slot_enters tree (name_index v A.state)).back (on_state uses_temps (on_state (name_state v) A)) f));
+        back = λ A f. m.back A ((s A).back (on_state uses_temps (on_state (state_of tree names v) A)) f);
         index = λ c A h f x.
-            let B2 = on_state uses_temps (on_state (name_state v) A) in
-            let f1 = ((slot_enters tree (name_index v A.state)).back B2 f) in
+            let B2 = on_state uses_temps (on_state (state_of tree names v) A) in
+            let f1 = (s A).back B2 f in
             subst (λ (j : ℕ). (B.slot j (flagged_name r h)).0.index ≡ temp_index v A.state) (sym (m.index c A h f1 x))
-            ((slot_enters tree (name_index v A.state)).index c B2 (flagged_name r h) f (content_flags tree c (on_state (name_state v) A) ((B.name r h).0.state, (B.name r h).1) (m.keep c A h f1 x)));
+            ((s A).index c B2 (flagged_name r h) f (content_flags tree c (on_state (state_of tree names v) A) ((B.name r h).0.state, (B.name r h).1) (m.keep c A h f1 x)));
         keep = λ c A h f x.
-            let B2 = on_state uses_temps (on_state (name_state v) A) in
-            let f1 = ((slot_enters tree (name_index v A.state)).back B2 f) in
+            let B2 = on_state uses_temps (on_state (state_of tree names v) A) in
+            let f1 = (s A).back B2 f in
             subst (λ (j : ℕ). Content tree c ((B.slot j (flagged_name r h)).0.state, (B.slot j (flagged_name r h)).1) (on_state (temp_state v) A)) (sym (m.index c A h f1 x))
-            ((slot_enters tree (name_index v A.state)).keep c B2 (flagged_name r h) f (content_flags tree c (on_state (name_state v) A) ((B.name r h).0.state, (B.name r h).1) (m.keep c A h f1 x)));
+            ((s A).keep c B2 (flagged_name r h) f (content_flags tree c (on_state (state_of tree names v) A) ((B.name r h).0.state, (B.name r h).1) (m.keep c A h f1 x)));
       }
+    where
+      s : (A : Abs) → Enters tree (state_of tree temps (index_of tree names (named tree r) A.state)) (index_of tree temps (index_of tree names (named tree r) A.state)) (B.slot (index_of tree names (named tree r) A.state))
+      s A = slot_enters tree (index_of tree names (named tree r) A.state)
 
 -- ---- lowerings that go on with the index
 
-post_does_if : (tree : List ℕ) (f : ℕ → Lowering) (c : Counts) (b : Bool) (v : Post) (G : Step) → Does tree (λ c p n s. f (cond b 0 (suc (pooled_index v s))) c p n (cond b s (pooled_state v s))) c G → Does tree (post_if b v f) c G
+post_does_if : (tree : List ℕ) (f : ℕ → Lowering) (c : Counts) (b : Bool) (v : Post) (G : Step) → Does tree (λ c p n s. f (cond b 0 (suc (index_of tree posts v s))) c p n (cond b s (state_of tree posts v s))) c G → Does tree (post_if b v f) c G
 unfolding post_if
 post_does_if tree f c true v G d = record { back = d.back; keep = d.keep }
 post_does_if tree f c false v G d = record { back = d.back; keep = d.keep }
@@ -293,11 +211,11 @@ post_does_if tree f c false v G d = record { back = d.back; keep = d.keep }
 module _ {tree : List ℕ} {f : ℕ → Lowering} {F : ℕ → Step} {c : Counts} where
   pub const_does : (v : ℕ) → ((i : ℕ) → Does tree (f i) c (F i)) → Does tree (with_const v f) c (L.with_const v F)
   unfolding B.konst
-  const_does v d = with_does (region_enters (consts_region tree) (const_keyed v CONSTS) (λ n. CONSTS + 2 * n) (λ n. omega arith) (λ n l. omega arith) (omega arith)) d
+  const_does v d = with_does (enters tree consts (const_keyed tree v)) d
 
   pub hash_does : (v : ℕ) → ((i : ℕ) → Does tree (f i) c (F i)) → Does tree (with_hash v f) c (L.with_hash v F)
   unfolding B.hash
-  hash_does v d = with_does (region_enters (hashes_region tree) (hash_keyed v HASHES) (λ n. HASHES + 2 * n) (λ n. omega arith) (λ n l. omega arith) (omega arith)) d
+  hash_does v d = with_does (enters tree hashes (hash_keyed tree v)) d
 
   pub name_does : (r : NameRef) → TextOf tree r → ((i : ℕ) → Does tree (f i) c (F i)) → Does tree (with_name (named tree r) f) c (L.with_name r F)
   name_does r g d = with_does (name_enters tree r g) d
@@ -307,7 +225,7 @@ module _ {tree : List ℕ} {f : ℕ → Lowering} {F : ℕ → Step} {c : Counts
 
   pub member_does : (r l : NameRef) → TextOf tree r → TextOf tree l → ((i : ℕ) → Does tree (f i) c (F i)) → Does tree (with_member (read_of tree r l) f) c (L.with_member r l F)
   unfolding B.member
-  member_does r l g q d = with_does (region_enters (members_region tree) (member_keyed tree r l MEMBERS g q) (λ n. MEMBERS + 6 * n) (λ n. omega arith) (λ n j. omega arith) (omega arith)) d
+  member_does r l g q d = with_does (enters tree members (member_keyed tree r l g q)) d
 
   pub post_does : (v : Post) → ((i : ℕ) → Does tree (f i) c (F i)) → Does tree (with_post v f) c (λ h. going (B.post v h) F)
   unfolding B.post

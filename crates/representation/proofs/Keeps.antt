@@ -1,18 +1,20 @@
 -- Tables of the workspace where words of other regions have changed. Assumes nothing.
-use Rattle.std.proofs.Common.{rules, ◌≡◌, subst, ◌∙◌, List, [], ◌∷◌, ℕ, zero, suc, ◌+◌, ◌*◌, ◌≤◌, ◌<◌, arith, length, get_or, length-append}
+use Rattle.std.proofs.Common.{rules, ◌≡◌, subst, ◌∙◌, Bool, List, [], ◌∷◌, ℕ, zero, suc, ◌+◌, ◌*◌, ◌≤◌, ◌<◌, arith, length, get_or, length-append}
 use mathlib.Core.Option.{Option, some, none}
-use Rattle.ast.specs.Tree.{Name}
-use Rattle.numeric.specs.Post.{Post}
 use Rattle.program.specs.Instruction.{Instruction}
 use Rattle.program.specs.Program.{MemberStore}
-use Rattle.semantics.specs.State.{Item, CallInfo, MemberRead, set_segments, set_calls, set_stores}
+use Rattle.semantics.specs.State.{Item, CallInfo, Pools, set_segments, set_calls, set_stores}
 use Rattle.semantics.specs.Link.{place_segments}
 use Rattle.semantics.proofs.Costs.{weigh}
 use Rattle.semantics.proofs.Sizes.{weigh_length}
-use Rattle.workspace.specs.Layout.{OPEN, FINISHED, CONSTS, POSTS, HASHES, NAMES, TEMPS, MEMBERS, STORES, PATHS, CALLS, ARGUMENTS}
+use Rattle.workspace.specs.Layout.{OPEN, FINISHED, CONSTS, STORES, PATHS, CALLS, ARGUMENTS}
+use Rattle.workspace.specs.declared.counts.Pools as N
+use Rattle.workspace.specs.declared.counts.Listed.{Listed}
+use Rattle.builder.specs.declared.OpenCode.{OpenCode}
 use Rattle.card.specs.Holds.{PostIs, HashIs, TextIs, NameIs}
+use Rattle.std.proofs.Math.Nat.{mul-le-mul_left}
 use Rattle.representation.proofs.Rows.{Rows, Local, Agree, Apart}
-use Rattle.representation.proofs.Represents.{CodeHeld, PoolsHeld, StoresHeld, CallsHeld, ItemAt, InstructionAt, WordAt, ConstIs, MemberAt, StoreAt, places, first_place, Filled, CallsFrom, OpenCall, OpenCallAt, OpenCalls, Abs, Fits, finished_code, Table, Tables}
+use Rattle.representation.proofs.Represents.{Pooled, consts, posts, hashes, names, temps, members, row, PoolHeld, PoolsHeld, pool_held, all_held, CodeHeld, StoresHeld, CallsHeld, ItemAt, InstructionAt, WordAt, ConstIs, MemberAt, StoreAt, places, first_place, Filled, CallsFrom, OpenCall, OpenCallAt, OpenCalls, Abs, Fits, finished_code, Table, Tables}
 
 -- what lies before the changed words, or behind them, is as it was
 pub agree_below : {ws vs : List ℕ} {lo hi : ℕ} → Apart ws vs lo hi → {o e : ℕ} → e ≤ lo → Agree ws vs o e
@@ -135,28 +137,57 @@ module _ (ws vs : List ℕ) where
         open_keep hi is os o.number (omega arith) c g a h.2,
       )
 
+-- ---- a pool that is interned, within its region
+
+module _ (tree : List ℕ) where
+  -- a claim on an entry looks at its own words
+  pub entries : (i : Pooled) → Local (row tree i).region.width (row tree i).At
+  entries consts = const_local
+  entries posts = post_local
+  entries hashes = hash_local
+  entries names = name_local tree
+  entries temps = word_local
+  entries members = member_local tree
+
+  abbrev pub end_of : Pooled → ℕ
+  end_of i = let r = (row tree i).region in r.from + r.width * r.room
+
+  pub pool_inside : (i : Pooled) → (CONSTS ≤ (row tree i).region.from) × (end_of i ≤ STORES)
+  pool_inside consts = (omega arith, omega arith)
+  pool_inside i = (omega arith, omega arith)
+
+  pub pool_fits : (i : Pooled) (A : Abs) → Fits A → length ((row tree i).pool.get A.state.pools) ≤ (row tree i).region.room
+  pool_fits consts A f = f.consts
+  pool_fits posts A f = f.posts
+  pool_fits hashes A f = f.hashes
+  pool_fits names A f = f.names
+  pool_fits temps A f = f.temps
+  pool_fits members A f = f.members
+
+  pub pool_keep : (ws vs : List ℕ) (A : Abs) → Fits A → (i : Pooled) → Agree ws vs (row tree i).region.from (end_of i) → (n : N.Pools) → PoolHeld tree ws n A.state.pools i → PoolHeld tree vs n A.state.pools i
+  pool_keep ws vs A f i g n t =
+      let r = row tree i in
+      let b = mul-le-mul_left r.region.width (pool_fits i A f) in
+      table_keep r.region.width r.At (entries i) ws vs r.region.from (r.region.count n) (r.pool.get A.state.pools) (end_of i) (omega arith) g t
+
 -- ---- groups of tables whose words are as they were
 
 module _ (tree ws vs : List ℕ) (A : Abs) (f : Fits A) where
-  pub code_held_keep : Agree ws vs OPEN CONSTS → {top base finished : ℕ} → CodeHeld ws top base finished A.outer A.code (finished_code A.state.pools) → CodeHeld vs top base finished A.outer A.code (finished_code A.state.pools)
+  pub code_held_keep : Agree ws vs OPEN CONSTS → {s : OpenCode} → CodeHeld ws s A.outer A.code A.wait (finished_code A.state.pools) → CodeHeld vs s A.outer A.code A.wait (finished_code A.state.pools)
   code_held_keep g t =
       let e = length-append A.outer A.code in
       record {
         open_base = t.open_base;
         open_code = table_keep 2 ItemAt item_local ws vs OPEN _ _ FINISHED (omega arith) (λ j x y. g j x (omega arith)) t.open_code;
         the_finished_code = finished_keep ws vs _ (finished_code A.state.pools) (omega arith) (λ j x y. g j (omega arith) y) t.the_finished_code;
+        waiting_is = t.waiting_is;
       }
 
-  pub pools_held_keep : Agree ws vs CONSTS STORES → {n1 n2 n3 n4 n5 n6 : ℕ} → let P = A.state.pools in
-      PoolsHeld tree ws n1 n2 n3 n4 n5 n6 P.consts P.posts P.hashes P.names P.temps P.members → PoolsHeld tree vs n1 n2 n3 n4 n5 n6 P.consts P.posts P.hashes P.names P.temps P.members
-  pools_held_keep g t = record {
-    the_consts = table_keep 2 ConstIs const_local ws vs CONSTS _ _ POSTS (omega (arith, f.consts)) (λ j x y. g j x (omega arith)) t.the_consts;
-    the_posts = table_keep 2 PostIs post_local ws vs POSTS _ _ HASHES (omega (arith, f.posts)) (λ j x y. g j (omega arith) (omega arith)) t.the_posts;
-    the_hashes = table_keep 2 HashIs hash_local ws vs HASHES _ _ NAMES (omega (arith, f.hashes)) (λ j x y. g j (omega arith) (omega arith)) t.the_hashes;
-    the_names = table_keep 3 (NameIs tree) (name_local tree) ws vs NAMES _ _ TEMPS (omega (arith, f.names)) (λ j x y. g j (omega arith) (omega arith)) t.the_names;
-    the_temps = table_keep 1 WordAt word_local ws vs TEMPS _ _ MEMBERS (omega (arith, f.temps)) (λ j x y. g j (omega arith) (omega arith)) t.the_temps;
-    the_members = table_keep 6 (MemberAt tree) (member_local tree) ws vs MEMBERS _ _ STORES (omega (arith, f.members)) (λ j x y. g j (omega arith) y) t.the_members;
-  }
+  pub pools_held_keep : Agree ws vs CONSTS STORES → {n : N.Pools} → PoolsHeld tree ws n A.state.pools → PoolsHeld tree vs n A.state.pools
+  pools_held_keep g {n} t =
+      all_held tree vs n A.state.pools λ i.
+      let b = pool_inside tree i in
+      pool_keep tree ws vs A f i (λ j x y. g j (omega arith) (omega arith)) n (pool_held tree ws n A.state.pools t i)
 
   pub stores_held_keep : Agree ws vs STORES CALLS → {stores paths : ℕ} → StoresHeld ws stores paths A.state.pools.stores → StoresHeld vs stores paths A.state.pools.stores
   stores_held_keep g {stores} {paths} t =
@@ -181,13 +212,12 @@ calls_held_keep ws vs a l {calls} {arguments} {is} {os} t = record {
 
 -- ---- all tables
 
-module _ (tree ws vs : List ℕ) (A : Abs) (f : Fits A) {top base finished consts posts hashes names temps members stores paths calls arguments : ℕ} where
+module _ (tree ws vs : List ℕ) (A : Abs) (f : Fits A) {n : N.Pools} {l : Listed} {s : OpenCode} where
   -- words of the pools have changed: new tables for those; the code, the stores and the calls are as they were
-  pub pools_changed : Apart ws vs CONSTS STORES → Tables tree ws top base finished consts posts hashes names temps members stores paths calls arguments A.outer A.code A.open_calls A.state.pools →
-      {n1 n2 n3 n4 n5 n6 : ℕ} {cs : List ℕ} {ps : List Post} {hs : List ℕ} {ns : List Name} {ts : List ℕ} {ms : List MemberRead} → PoolsHeld tree vs n1 n2 n3 n4 n5 n6 cs ps hs ns ts ms →
-      Tables tree vs top base finished n1 n2 n3 n4 n5 n6 stores paths calls arguments A.outer A.code A.open_calls
-      (record { consts = cs; posts = ps; hashes = hs; names = ns; temps = ts; members = ms; stores = A.state.pools.stores; calls = A.state.pools.calls; segments = A.state.pools.segments })
-  pools_changed a t p = record {
+  pub pools_changed : Apart ws vs CONSTS STORES → Tables tree ws n l s A.outer A.code A.wait A.open_calls A.state.pools → {m : N.Pools} (Q : Pools) → PoolsHeld tree vs m Q →
+      Tables tree vs m l s A.outer A.code A.wait A.open_calls
+      (record A.state.pools { consts = Q.consts; posts = Q.posts; hashes = Q.hashes; names = Q.names; temps = Q.temps; members = Q.members })
+  pools_changed a t Q p = record {
     code_held = code_held_keep tree ws vs A f (agree_below a (omega arith)) t.code_held;
     pools_held = p;
     stores_held = stores_held_keep tree ws vs A f (agree_above a (omega arith)) t.stores_held;
@@ -195,20 +225,20 @@ module _ (tree ws vs : List ℕ) (A : Abs) (f : Fits A) {top base finished const
   }
 
   -- words of the code regions have changed, of any open code and calls: new tables for those; the pools, the stores and the calls are as they were
-  pub code_changed : {lo hi : ℕ} → Apart ws vs lo hi → hi ≤ CONSTS → {outer code : List Item} {os : List OpenCall} → Tables tree ws top base finished consts posts hashes names temps members stores paths calls arguments outer code os A.state.pools →
-      {top2 base2 finished2 : ℕ} {outer2 code2 : List Item} {segments : List (List Item)} → CodeHeld vs top2 base2 finished2 outer2 code2 (place_segments segments 0) →
-      Tables tree vs top2 base2 finished2 consts posts hashes names temps members stores paths calls arguments outer2 code2 os (set_segments segments A.state.pools)
-  code_changed a l t c = record {
+  pub code_changed : {lo hi : ℕ} → Apart ws vs lo hi → hi ≤ CONSTS → {outer code : List Item} {wait : Bool} {os : List OpenCall} → Tables tree ws n l s outer code wait os A.state.pools →
+      {s2 : OpenCode} {outer2 code2 : List Item} {wait2 : Bool} {segments : List (List Item)} → CodeHeld vs s2 outer2 code2 wait2 (place_segments segments 0) →
+      Tables tree vs n l s2 outer2 code2 wait2 os (set_segments segments A.state.pools)
+  code_changed a b t c = record {
     code_held = c;
-    pools_held = pools_held_keep tree ws vs A f (agree_above a l) t.pools_held;
+    pools_held = pools_held_keep tree ws vs A f (agree_above a b) t.pools_held;
     stores_held = stores_held_keep tree ws vs A f (agree_above a (omega arith)) t.stores_held;
     calls_held = calls_held_keep ws vs a (omega arith) t.calls_held;
   }
 
   -- words from CALLS on have changed: new tables for those; all else is as it was
-  pub calls_changed : {lo hi : ℕ} → Apart ws vs lo hi → CALLS ≤ lo → {calls2 arguments2 : ℕ} {os : List OpenCall} {is : List CallInfo} → CallsHeld vs calls2 arguments2 is os →
-      Tables tree ws top base finished consts posts hashes names temps members stores paths calls arguments A.outer A.code A.open_calls A.state.pools →
-      Tables tree vs top base finished consts posts hashes names temps members stores paths calls2 arguments2 A.outer A.code os (set_calls is A.state.pools)
+  pub calls_changed : {lo hi : ℕ} → Apart ws vs lo hi → CALLS ≤ lo → {calls arguments : ℕ} {os : List OpenCall} {is : List CallInfo} → CallsHeld vs calls arguments is os →
+      Tables tree ws n l s A.outer A.code A.wait A.open_calls A.state.pools →
+      Tables tree vs n (record l { calls = calls; arguments = arguments }) s A.outer A.code A.wait os (set_calls is A.state.pools)
   calls_changed a b c t = record {
     code_held = code_held_keep tree ws vs A f (agree_below a (omega arith)) t.code_held;
     pools_held = pools_held_keep tree ws vs A f (agree_below a (omega arith)) t.pools_held;
@@ -217,12 +247,12 @@ module _ (tree ws vs : List ℕ) (A : Abs) (f : Fits A) {top base finished const
   }
 
   -- words of the stores and their paths have changed: a new table for those; all else is as it was
-  pub stores_changed : Apart ws vs STORES CALLS → Tables tree ws top base finished consts posts hashes names temps members stores paths calls arguments A.outer A.code A.open_calls A.state.pools →
-      {stores2 paths2 : ℕ} {xs : List MemberStore} → StoresHeld vs stores2 paths2 xs →
-      Tables tree vs top base finished consts posts hashes names temps members stores2 paths2 calls arguments A.outer A.code A.open_calls (set_stores xs A.state.pools)
-  stores_changed a t s = record {
+  pub stores_changed : Apart ws vs STORES CALLS → Tables tree ws n l s A.outer A.code A.wait A.open_calls A.state.pools →
+      {stores paths : ℕ} {xs : List MemberStore} → StoresHeld vs stores paths xs →
+      Tables tree vs n (record l { stores = stores; paths = paths }) s A.outer A.code A.wait A.open_calls (set_stores xs A.state.pools)
+  stores_changed a t c = record {
     code_held = code_held_keep tree ws vs A f (agree_below a (omega arith)) t.code_held;
     pools_held = pools_held_keep tree ws vs A f (agree_below a (omega arith)) t.pools_held;
-    stores_held = s;
+    stores_held = c;
     calls_held = calls_held_keep ws vs a (omega arith) t.calls_held;
   }

@@ -49,9 +49,8 @@ waits b A = record { outer = A.outer; code = A.code; wait = b; open_calls = A.op
 
 module _ {tree : List ℕ} {c : Counts} where
   -- flags: what the builder does to bits and float_loop is what m does
-  pub flags_move : (m : Flags → Flags) (M : B.State → B.State) → ((s : B.State) (f : Flags) → s.flags ≡ f.bits → s.float_loop ≡ f.float_loop → ((M s).flags ≡ (m f).bits) × ((M s).float_loop ≡ (m f).float_loop))
-      → ((s : B.State) → M s ≡ record { top = s.top; base = s.base; finished = s.finished; waiting = s.waiting; consts = s.consts; posts = s.posts; hashes = s.hashes; names = s.names; temps = s.temps; members = s.members; stores = s.stores; paths = s.paths; calls = s.calls; arguments = s.arguments; depth = s.depth; flags = (M s).flags; float_loop = (M s).float_loop; refusal = s.refusal })
-      → Moves tree (on_state (λ s. set_flags (m s.flags) s)) c c (still M)
+  pub flags_move : (m : Flags → Flags) (M : B.State → B.State) → ((s : B.State) (f : Flags) → s.marks.bits ≡ f.bits → s.marks.float_loop ≡ f.float_loop → ((M s).marks.bits ≡ (m f).bits) × ((M s).marks.float_loop ≡ (m f).float_loop))
+      → ((s : B.State) → M s ≡ record s { marks = (M s).marks }) → Moves tree (on_state (λ s. set_flags (m s.flags) s)) c c (still M)
   flags_move m M e only = search rules
 
   pub flagged_does : (m : Flags → Flags) (M : B.State → B.State) {f : Lowering} {F : Step} → Moves tree (on_state (λ s. set_flags (m s.flags) s)) c c (still M) → Does tree f c F → Does tree (flagged m f) c (λ h. F (still M h))

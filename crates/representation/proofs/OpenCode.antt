@@ -14,6 +14,9 @@ use Rattle.semantics.specs.State.{Item, instr, State, fail}
 use Rattle.semantics.specs.Pieces.{Lowered, emit, flush, put, nothing, failing}
 use Rattle.code.specs.Segments as G
 use Rattle.workspace.specs.Layout.{OPEN, FINISHED}
+use Rattle.workspace.specs.declared.counts.Pools as N
+use Rattle.workspace.specs.declared.counts.Listed.{Listed}
+use Rattle.builder.specs.declared.OpenCode.{OpenCode}
 use Rattle.builder.specs.Fields.{set_waiting}
 use Rattle.builder.specs.Steps as W
 use Rattle.lowering.specs.Held.{Held}
@@ -23,15 +26,15 @@ use Rattle.representation.proofs.Keeps.{agree_above, item_local, finished_keep, 
 use Rattle.representation.proofs.Laws.{ends, both, fails_move, waits}
 
 -- only words of the open code have changed
-module _ {tree ws vs : List ℕ} {top base finished consts posts hashes names temps members stores paths calls arguments : ℕ} {outer code : List Item} {os : List OpenCall} where
-  pub open_changed : (A : Abs) → Fits A → {lo hi : ℕ} → Apart ws vs lo hi → hi ≤ FINISHED → {top' base' : ℕ} {outer' code' : List Item} → base' ≡ length outer' → Table 2 (ItemAt vs) OPEN top' (outer' ++ code')
-      → Tables tree ws top base finished consts posts hashes names temps members stores paths calls arguments outer code os A.state.pools
-      → Tables tree vs top' base' finished consts posts hashes names temps members stores paths calls arguments outer' code' os A.state.pools
+module _ {tree ws vs : List ℕ} {n : N.Pools} {l : Listed} {s : OpenCode} {outer code : List Item} {wait : Bool} {os : List OpenCall} where
+  pub open_changed : (A : Abs) → Fits A → {lo hi : ℕ} → Apart ws vs lo hi → hi ≤ FINISHED → {top base : ℕ} {outer' code' : List Item} → base ≡ length outer' → Table 2 (ItemAt vs) OPEN top (outer' ++ code')
+      → Tables tree ws n l s outer code wait os A.state.pools → Tables tree vs n l (record s { top = top; base = base }) outer' code' wait os A.state.pools
   open_changed A f a b e t k =
       code_changed tree ws vs A f a (omega arith) k {segments = A.state.pools.segments} (record {
         open_base = e;
         open_code = t;
-        the_finished_code = finished_keep ws vs finished (finished_code A.state.pools) (omega arith) (agree_above a b) k.code_held.the_finished_code;
+        the_finished_code = finished_keep ws vs s.finished (finished_code A.state.pools) (omega arith) (agree_above a b) k.code_held.the_finished_code;
+        waiting_is = k.code_held.waiting_is;
       })
 
 -- ---- an item more
@@ -54,8 +57,8 @@ emits {tree} {c} x = record {
       let t = k.tables in
       let lc = length-append A.outer A.code in
       let l1 = length-append A.code (x ∷ []) in
-      let room : h.0.top + 1 ≤ 2048 = omega arith in
-      let at = h.0.top * 2 in
+      let room : h.0.code.top + 1 ≤ 2048 = omega arith in
+      let at = h.0.code.top * 2 in
       let vs = sets h.1 at (front_of x ∷ back_of x ∷ []) in
       let a = sets_apart h.1 at (front_of x ∷ back_of x ∷ []) in
       let w = weigh_length 2 (A.outer ++ A.code) in
@@ -67,7 +70,7 @@ emits {tree} {c} x = record {
       let e = append_assoc A.outer A.code (x ∷ []) in
       let rows : Rows 2 (ItemAt vs) OPEN (A.outer ++ (A.code ++ (x ∷ []))) = subst (λ (l : List Item). Rows 2 (ItemAt vs) OPEN l) e (rows_snoc 2 (ItemAt vs) OPEN (A.outer ++ A.code) x old new) in
       let l2 = length-append A.outer (A.code ++ (x ∷ [])) in
-      rw (le-leb (h.0.top + 1) 2048 room)
+      rw (le-leb (h.0.code.top + 1) 2048 room)
       (record {
         enough = omega (arith, a.same_length, en);
         beside = k.beside;
@@ -96,7 +99,7 @@ back_flush A f = back_code A (flush_a A) refl refl (omega (arith, length_flushed
 pub stopped : {tree : List ℕ} {c : Counts} (A : Abs) (h : Held) → Content tree c h A → Content tree c (set_waiting false h.0, h.1) (waits false A)
 stopped A h k = search rules
 
-flush_go : {tree : List ℕ} {c : Counts} (b : Bool) (A : Abs) (h : Held) → h.0.waiting ≡ b → Fits (record { outer = A.outer; code = flushed_code b A.code; wait = false; open_calls = A.open_calls; state = A.state }) → Content tree c h A
+flush_go : {tree : List ℕ} {c : Counts} (b : Bool) (A : Abs) (h : Held) → h.0.code.waiting ≡ b → Fits (record { outer = A.outer; code = flushed_code b A.code; wait = false; open_calls = A.open_calls; state = A.state }) → Content tree c h A
     → Content tree c (cond b (W.emitted 0x0d00_0000 0 (set_waiting false h.0, h.1)) h) (record { outer = A.outer; code = flushed_code b A.code; wait = false; open_calls = A.open_calls; state = A.state })
 unfolding flushed_code word_of
 flush_go {tree} {c} true A h e f k = (emits {tree = tree} {c = c} (instr push)).keep (waits false A) (set_waiting false h.0, h.1) f (stopped A h k)
@@ -106,7 +109,7 @@ pub flushes : {tree : List ℕ} {c : Counts} → Moves tree flush_a c c W.flushe
 unfolding W.flushed
 flushes {tree} {c} = record {
   back = back_flush;
-  keep = λ A h f k. let e = k.beside.waiting_is in subst (λ (w : Bool). Content tree c (cond w (W.emitted 0x0d00_0000 0 (set_waiting false h.0, h.1)) h) (flush_a A)) (sym e) (flush_go A.wait A h e f k);
+  keep = λ A h f k. let e = k.tables.code_held.waiting_is in subst (λ (w : Bool). Content tree c (cond w (W.emitted 0x0d00_0000 0 (set_waiting false h.0, h.1)) h) (flush_a A)) (sym e) (flush_go A.wait A h e f k);
 }
 
 abbrev pub at_a : (ℕ → State → Lowered) → Abs → Abs

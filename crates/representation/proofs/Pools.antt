@@ -9,7 +9,7 @@ use Rattle.semantics.proofs.Sizes.{weigh_length}
 use Rattle.lowering.specs.Search.{seek}
 use Rattle.lowering.specs.Regions.{appended_count, appended_words, interned_index, interned_count, interned_words}
 use Rattle.lowering.proofs.Slots.{same, seek_slot}
-use Rattle.representation.proofs.Rows.{Rows, Local, Apart, rows_agree, rows_snoc, sets_apart, sets_stored}
+use Rattle.representation.proofs.Rows.{Rows, Local, Apart, Agree, rows_agree, rows_snoc, sets_apart, sets_stored}
 use Rattle.representation.proofs.Represents.{Table}
 use Rattle.representation.proofs.Keeps.{agree_below}
 
@@ -75,6 +75,14 @@ apart_none ws lo hi = search rules
 
 pub apart_wider : {ws vs : List ℕ} {lo hi : ℕ} → Apart ws vs lo hi → (lo2 hi2 : ℕ) → lo2 ≤ lo → hi ≤ hi2 → Apart ws vs lo2 hi2
 apart_wider a lo2 hi2 l u = search rules
+
+-- words that lie apart from the changed ones agree
+pub apart_agree : {ws vs : List ℕ} {lo hi o e : ℕ} → Apart ws vs lo hi → ((k : ℕ) → o ≤ k → k < e → lo ≤ k → hi ≤ k) → Agree ws vs o e
+apart_agree {ws} {vs} {lo} a g k p q = go (dec_lt k lo)
+  where
+    go : Dec (k < lo) → get_or vs k 0 ≡ get_or ws k 0
+    go (yes l) = a.below k l
+    go (no l) = a.above k (g k p q (omega arith))
 
 module _ (k n room : ℕ) (ws : List ℕ) (at : ℕ) (entry : List ℕ) where
   -- only words of the region change

@@ -73,20 +73,20 @@ module _ {tree : List ℕ} {c : Counts} where
   fill_keep A o os h eo el f r =
       let t = r.tables in
       let is = A.state.pools.calls in
-      let op : OpenCalls h.1 is h.0.calls (o ∷ os) = subst (λ (l : List OpenCall). OpenCalls h.1 is h.0.calls l) eo t.calls_held.the_open in
+      let op : OpenCalls h.1 is h.0.listed.calls (o ∷ os) = subst (λ (l : List OpenCall). OpenCalls h.1 is h.0.listed.calls l) eo t.calls_held.the_open in
       let d = op.1 in
       let k = o.number in
       let cc = t.calls_held.call_count in
       let ac = t.calls_held.argument_count in
       let ff = filled_fill is k o.starts d.waits in
       let er = ap reserved_by eo in
-      let opens : OpenCalls h.1 (fill k o.starts is) h.0.calls os = widen h.1 (fill k o.starts is) k h.0.calls os (omega arith) (open_fill h.1 is k k o.starts os (omega arith) op.2) in
+      let opens : OpenCalls h.1 (fill k o.starts is) h.0.listed.calls os = widen h.1 (fill k o.starts is) k h.0.listed.calls os (omega arith) (open_fill h.1 is k k o.starts os (omega arith) op.2) in
       record {
         enough = r.enough;
         beside = r.beside;
         tables = calls_changed tree h.1 h.1 A f (apart_none h.1 CALLS CALLS) (omega arith) (record {
           call_count = cc ∙ sym (length_fill is k o.starts);
-          the_calls = calls_fill h.1 h.0.arguments CALLS 0 is k o.starts (d.reserved_is ∙ sym el) d.starts_are t.calls_held.the_calls;
+          the_calls = calls_fill h.1 h.0.listed.arguments CALLS 0 is k o.starts (d.reserved_is ∙ sym el) d.starts_are t.calls_held.the_calls;
           the_open = opens;
           argument_count = omega (arith, ac, er, ff, el);
         }) t;
@@ -107,7 +107,7 @@ offsets_length (a ∷ xs) c s = ap suc (offsets_length xs c _)
 module _ (tree : List ℕ) (E : ℕ → Bool → Step) (C : ℕ → NameRef → Bool → Step) (Z : ℕ → Bool → Step) where
   -- what is behind the arguments: as in R.called
   abbrev argued : ℕ → ℕ → ℕ → ℕ → Step
-  argued v m n q h = R.arguments tree E C Z h.0.base h.0.waiting n q h.0.arguments ((L.call_begun v m n h).0.state, (L.call_begun v m n h).1)
+  argued v m n q h = R.arguments tree E C Z h.0.code.base h.0.code.waiting n q h.0.listed.arguments ((L.call_begun v m n h).0.state, (L.call_begun v m n h).1)
 
   module _ (c : Counts) (v m : ℕ) (xs : List Lowerings) (n q : ℕ) (k : Children tree E C Z xs n q) (pends : (j : ℕ) (s : State) → Pending j s.pools.calls → Pending j (arguments xs c s).state.pools.calls) where
     abbrev told : State → Arguments
@@ -142,10 +142,10 @@ module _ (tree : List ℕ) (E : ℕ → Bool → Step) (C : ℕ → NameRef → 
           let g : Held = ((L.call_begun v m n h).0.state, (L.call_begun v m n h).1) in
           let r1 = begun_keep v m n A h f1 r in
           let x = count_is in
-          let r2 = arguments_keep tree E C Z c xs n q k (begun_a v m n A) (open_call n A) A.open_calls h.0.arguments h.0.base g refl (omega arith) (omega arith) r.tables.code_held.open_base f2 r1 in
+          let r2 = arguments_keep tree E C Z c xs n q k (begun_a v m n A) (open_call n A) A.open_calls h.0.listed.arguments h.0.code.base g refl (omega arith) (omega arith) r.tables.code_held.open_base f2 r1 in
           let o = offsets_length xs c (begun_state v m A.state) in
           let r3 = fill_keep (behind A) (grown_by (told A.state).offsets (open_call n A)) A.open_calls _ refl (omega arith) f2 r2 in
-          subst (λ (w : Bool). Content tree c (R.arguments tree E C Z h.0.base w n q h.0.arguments g) (on_state (called v m xs c) A)) (sym r.beside.waiting_is) r3;
+          subst (λ (w : Bool). Content tree c (R.arguments tree E C Z h.0.code.base w n q h.0.listed.arguments g) (on_state (called v m xs c) A)) (sym r.tables.code_held.waiting_is) r3;
     }
 
 -- ---- the query

@@ -12,12 +12,18 @@ use Rattle.depth.specs.declared.Depth.{Depth}
 use Rattle.semantics.specs.Positions.{past}
 use Rattle.semantics.specs.Regions.{path_entries}
 use Rattle.semantics.specs.State.{Item, instr, to_cleanup, to_check, CallInfo, MemberRead, Pools, Flags, State}
+use Rattle.semantics.specs.Pieces as P
 use Rattle.semantics.specs.Pieces.{Lowering}
 use Rattle.semantics.specs.Link.{place_segments, member_entry, offsets_of}
 use Rattle.code.specs.Segments.{BREAK, CONTINUE}
-use Rattle.workspace.specs.Layout.{OPEN, FINISHED, CONSTS, POSTS, HASHES, NAMES, TEMPS, MEMBERS, STORES, CALLS, ARGUMENTS}
+use Rattle.workspace.specs.Layout.{OPEN, FINISHED, STORES, CALLS, ARGUMENTS}
 use Rattle.card.specs.Holds.{PostIs, HashIs, NameIs, MemberIs, StoreIs}
+use Rattle.workspace.specs.declared.counts.Pools as N
+use Rattle.workspace.specs.declared.counts.Listed.{Listed}
+use Rattle.builder.specs.declared.OpenCode.{OpenCode}
+use Rattle.builder.specs.declared.Marks.{Marks}
 use Rattle.lowering.specs.Held.{Held}
+use Rattle.lowering.specs.Pools as B
 use Rattle.lowering.specs.Pools.{SHARED, Found}
 use Rattle.lowering.specs.Parts.{Step, front}
 use Rattle.representation.proofs.Rows.{Rows}
@@ -149,20 +155,54 @@ pub record Table {X : Type 0} (w : ℕ) (Q : ℕ → X → Type 0) (o n : ℕ) (
   pub count : n ≡ length xs
   pub rows : Rows w Q o xs
 
--- the regions, by how much of each is in use: open and finished code
-pub record CodeHeld (ws : List ℕ) (top base finished : ℕ) (outer code : List Item) (closed : List Instruction) : Type 0 where
-  pub open_base : base ≡ length outer
-  pub open_code : Table 2 (ItemAt ws) OPEN top (outer ++ code)
-  pub the_finished_code : Table 2 (InstructionAt ws) FINISHED finished closed
+-- the regions, by how much of each is in use: open and finished code, and whether a Push waits
+pub record CodeHeld (ws : List ℕ) (s : OpenCode) (outer code : List Item) (wait : Bool) (closed : List Instruction) : Type 0 where
+  pub open_base : s.base ≡ length outer
+  pub open_code : Table 2 (ItemAt ws) OPEN s.top (outer ++ code)
+  pub the_finished_code : Table 2 (InstructionAt ws) FINISHED s.finished closed
+  pub waiting_is : s.waiting ≡ wait
 
--- the six pools that are interned
-pub record PoolsHeld (tree ws : List ℕ) (consts posts hashes names temps members : ℕ) (cs : List ℕ) (ps : List Post) (hs : List ℕ) (ns : List Name) (ts : List ℕ) (ms : List MemberRead) : Type 0 where
-  pub the_consts : Table 2 (ConstIs ws) CONSTS consts cs
-  pub the_posts : Table 2 (PostIs ws) POSTS posts ps
-  pub the_hashes : Table 2 (HashIs ws) HASHES hashes hs
-  pub the_names : Table 3 (NameIs tree ws) NAMES names ns
-  pub the_temps : Table 1 (WordAt ws) TEMPS temps ts
-  pub the_members : Table 6 (MemberAt tree ws) MEMBERS members ms
+-- ---- the pools that are interned
+
+pub data Pooled : Type 0 where
+  consts posts hashes names temps members : Pooled
+
+-- a pool's region, its list with its keys, and what words say of an entry
+pub record Row (tree : List ℕ) : Type 1 where
+  pub Entry : Type 0
+  pub Key : Type 0
+  pub region : B.Pool
+  pub pool : P.Pool Entry Key
+  pub At : List ℕ → ℕ → Entry → Type 0
+
+abbrev pub row : (tree : List ℕ) → Pooled → Row tree
+row tree consts = record { Entry = ℕ; Key = ℕ; region = B.const_pool; pool = P.const_pool; At = ConstIs }
+row tree posts = record { Entry = Post; Key = ℕ × ℕ; region = B.post_pool; pool = P.post_pool; At = PostIs }
+row tree hashes = record { Entry = ℕ; Key = ℕ; region = B.hash_pool; pool = P.hash_pool; At = HashIs }
+row tree names = record { Entry = Name; Key = ℕ; region = B.name_pool; pool = P.name_pool; At = NameIs tree }
+row tree temps = record { Entry = ℕ; Key = ℕ; region = B.slot_pool; pool = P.slot_pool; At = WordAt }
+row tree members = record { Entry = MemberRead; Key = ℕ × ℕ; region = B.member_pool; pool = P.member_pool; At = MemberAt tree }
+
+module _ (tree ws : List ℕ) (n : N.Pools) (Q : Pools) where
+  abbrev pub PoolHeld : Pooled → Type 0
+  PoolHeld i = let r = row tree i in Table r.region.width (r.At ws) r.region.from (r.region.count n) (r.pool.get Q)
+
+  -- a product, so that a step that changes none of the lists leaves it as it is
+  abbrev pub PoolsHeld : Type 0
+  PoolsHeld = PoolHeld consts × PoolHeld posts × PoolHeld hashes × PoolHeld names × PoolHeld temps × PoolHeld members
+
+  abbrev pub pool_held : PoolsHeld → (i : Pooled) → PoolHeld i
+  pool_held h consts = h.0
+  pool_held h posts = h.1
+  pool_held h hashes = h.2
+  pool_held h names = h.3
+  pool_held h temps = h.4
+  pool_held h members = h.5
+
+  abbrev pub all_held : ((i : Pooled) → PoolHeld i) → PoolsHeld
+  all_held h = (h consts, h posts, h hashes, h names, h temps, h members)
+
+-- ---- the other regions
 
 pub record StoresHeld (ws : List ℕ) (stores paths : ℕ) (xs : List MemberStore) : Type 0 where
   pub the_stores : Table 4 (StoreAt paths ws) STORES stores xs
@@ -174,11 +214,11 @@ pub record CallsHeld (ws : List ℕ) (calls arguments : ℕ) (is : List CallInfo
   pub the_open : OpenCalls ws is calls os
   pub argument_count : arguments ≡ reserved_by os + filled is
 
-pub record Tables (tree ws : List ℕ) (top base finished consts posts hashes names temps members stores paths calls arguments : ℕ) (outer code : List Item) (open_calls : List OpenCall) (P : Pools) : Type 0 where
-  pub code_held : CodeHeld ws top base finished outer code (finished_code P)
-  pub pools_held : PoolsHeld tree ws consts posts hashes names temps members P.consts P.posts P.hashes P.names P.temps P.members
-  pub stores_held : StoresHeld ws stores paths P.stores
-  pub calls_held : CallsHeld ws calls arguments P.calls open_calls
+pub record Tables (tree ws : List ℕ) (n : N.Pools) (l : Listed) (s : OpenCode) (outer code : List Item) (wait : Bool) (open_calls : List OpenCall) (P : Pools) : Type 0 where
+  pub code_held : CodeHeld ws s outer code wait (finished_code P)
+  pub pools_held : PoolsHeld tree ws n P
+  pub stores_held : StoresHeld ws l.stores l.paths P.stores
+  pub calls_held : CallsHeld ws l.calls l.arguments P.calls open_calls
 
 -- the builder's counters, now and at their deepest, where c is open
 pub record Counted (c deepest : Counts) (d : Depth) : Type 0 where
@@ -187,17 +227,16 @@ pub record Counted (c deepest : Counts) (d : Depth) : Type 0 where
   pub within : AtMost c deepest
 
 -- what stands beside the words; it is over values, so that a step on the words leaves it as it is
-pub record Beside (c : Counts) (waiting : Bool) (depth : Depth) (bits : ℕ) (float_loop : Bool) (number : ℕ) (wait : Bool) (deepest : Counts) (flags : Flags) (refusal : ℕ) : Type 0 where
-  pub waiting_is : waiting ≡ wait
+pub record Beside (c : Counts) (depth : Depth) (marks : Marks) (number : ℕ) (deepest : Counts) (flags : Flags) (refusal : ℕ) : Type 0 where
   pub counted : Counted c deepest depth
-  pub bits_are : bits ≡ flags.bits
-  pub float_loop_is : float_loop ≡ flags.float_loop
+  pub bits_are : marks.bits ≡ flags.bits
+  pub float_loop_is : marks.float_loop ≡ flags.float_loop
   pub number_is : number ≡ refusal
 
 pub record Content (tree : List ℕ) (c : Counts) (h : Held) (A : Abs) : Type 0 where
   pub enough : 16384 ≤ length h.1
-  pub beside : Beside c h.0.waiting h.0.depth h.0.flags h.0.float_loop (number_of_first h.0.refusal) A.wait A.state.deepest A.state.flags A.state.refusal
-  pub tables : Tables tree h.1 h.0.top h.0.base h.0.finished h.0.consts h.0.posts h.0.hashes h.0.names h.0.temps h.0.members h.0.stores h.0.paths h.0.calls h.0.arguments A.outer A.code A.open_calls A.state.pools
+  pub beside : Beside c h.0.depth h.0.marks (number_of_first h.0.refusal) A.state.deepest A.state.flags A.state.refusal
+  pub tables : Tables tree h.1 h.0.pools h.0.listed h.0.code A.outer A.code A.wait A.open_calls A.state.pools
 
 -- ---- steps
 

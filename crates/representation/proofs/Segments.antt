@@ -157,22 +157,22 @@ module _ {tree : List ℕ} {c : Counts} where
       let ln = length-append (o ++ k) (map (aim 0 0) y) in
       let l2 = length-map y (aim 0 0) in
       let pl = pasts_length segs 0 in
-      let size : h.0.top - h.0.base ≡ length y = omega arith in
-      let room : h.0.finished + length y ≤ 2048 = omega arith in
-      let from = h.0.base * 2 in
-      let to = 4096 + h.0.finished * 2 in
+      let size : h.0.code.top - h.0.code.base ≡ length y = omega arith in
+      let room : h.0.code.finished + length y ≤ 2048 = omega arith in
+      let from = h.0.code.base * 2 in
+      let to = 4096 + h.0.code.finished * 2 in
       let wo = weigh_length 2 (o ++ k) in
       let wf = weigh_length 2 F in
       let ef : OPEN + weigh 2 (o ++ k) ≡ from = omega arith in
       let et : FINISHED + weigh 2 F ≡ to = omega arith in
       let right = subst (λ (p : ℕ). Rows 2 (ItemAt h.1) p (map (aim 0 0) y)) ef (rows_right 2 (ItemAt h.1) OPEN (o ++ k) (map (aim 0 0) y) t.code_held.open_code.rows) in
       let left = rows_left 2 (ItemAt h.1) OPEN (o ++ k) (map (aim 0 0) y) t.code_held.open_code.rows in
-      let g = move_range h.0.finished y h.1 from to (omega arith) (omega arith) right in
-      let vs = G.relocated_range h.1 from to (length y) h.0.finished in
+      let g = move_range h.0.code.finished y h.1 from to (omega arith) (omega arith) right in
+      let vs = G.relocated_range h.1 from to (length y) h.0.code.finished in
       let a = g.1 in
       let left' : Rows 2 (ItemAt vs) OPEN (o ++ k) = rows_agree 2 ItemAt item_local h.1 vs OPEN (o ++ k) (λ j u z. a.below j (omega arith)) left in
       let old : Rows 2 (InstructionAt vs) FINISHED F = rows_agree 2 InstructionAt instruction_local h.1 vs FINISHED F (λ j u z. a.below j (omega arith)) t.code_held.the_finished_code.rows in
-      let es : h.0.finished ≡ pasts segs 0 = omega arith in
+      let es : h.0.code.finished ≡ pasts segs 0 = omega arith in
       let new : Rows 2 (InstructionAt vs) to (map (settle (pasts segs 0) 0 0) y) = subst (λ (b : ℕ). Rows 2 (InstructionAt vs) to (map (settle b 0 0) y)) es g.0 in
       let rows = rows_append 2 (InstructionAt vs) FINISHED F (map (settle (pasts segs 0) 0 0) y) old (subst (λ (p : ℕ). Rows 2 (InstructionAt vs) p (map (settle (pasts segs 0) 0 0) y)) (sym et) new) in
       let e = sym (place_snoc segs y 0) in
@@ -180,9 +180,9 @@ module _ {tree : List ℕ} {c : Counts} where
       let lf = ap length e in
       let l4 = length-append F (map (settle (pasts segs 0) 0 0) y) in
       let l5 = length-map y (settle (pasts segs 0) 0 0) in
-      rw (size, le-leb (h.0.finished + length y) 2048 room)
+      rw (size, le-leb (h.0.code.finished + length y) 2048 room)
       (record {
         enough = omega (arith, a.same_length, en);
-        beside = search rules;
-        tables = code_changed tree h.1 vs A f0 a (omega arith) t {segments = segs ++ (y ∷ [])} (record { open_base = eb; open_code = record { count = omega arith; rows = left' }; the_finished_code = record { count = omega arith; rows = rows' } });
+        beside = r.beside;
+        tables = code_changed tree h.1 vs A f0 a (omega arith) t {segments = segs ++ (y ∷ [])} (record { open_base = eb; open_code = record { count = omega arith; rows = left' }; the_finished_code = record { count = omega arith; rows = rows' }; waiting_is = refl });
       })

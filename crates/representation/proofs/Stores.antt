@@ -38,7 +38,7 @@ use Rattle.lowering.specs.declared.assign.PathEnd.{PathEnd}
 use Rattle.lowering.specs.Kinds as K
 use Rattle.lowering.specs.Steps as L
 use Rattle.lowering.specs.Payloads as Q
-use Rattle.lowering.specs.Parts.{Step, either, instr, put_variable, going, post_bits, path_added, store_added}
+use Rattle.lowering.specs.Parts.{Step, either, instr, put_variable, going, set_listed, post_bits, path_added, store_added}
 use Rattle.builder.specs.Steps.{still}
 use Rattle.lowering.specs.Rules as R
 use Rattle.representation.proofs.Rows.{Apart, Agree, rows_snoc, sets_apart, sets_stored}
@@ -170,18 +170,18 @@ path_hashes_lem (x ∷ xs) n ws f (suc k) l =
     let e : PATHS + 2 * (n + 1) + 2 * k ≡ at + 2 * suc k = omega arith in
     subst (λ (j : ℕ). HashIs (path_words xs (n + 1) vs) j (get_or xs k 0)) e (path_hashes_lem xs (n + 1) vs (omega (arith, s, f)) k (omega arith))
 
-path_added_lem : (x : ℕ) (h : Held) → h.0.paths < 256 → path_added x h ≡ (L.set_paths (h.0.paths + 1) h.0, sets h.1 (PATHS + 2 * h.0.paths) (high x ∷ low x ∷ []))
+path_added_lem : (x : ℕ) (h : Held) → h.0.listed.paths < 256 → path_added x h ≡ (set_listed (record h.0.listed { paths = h.0.listed.paths + 1 }) h.0, sets h.1 (PATHS + 2 * h.0.listed.paths) (high x ∷ low x ∷ []))
 unfolding path_added appended_count appended_words
-path_added_lem x h l = rw (lt-ltb h.0.paths 256 l)
+path_added_lem x h l = rw (lt-ltb h.0.listed.paths 256 l)
 
-all_added_lem : (hs : List ℕ) (h : Held) → h.0.paths + length hs ≤ 256 → all_added hs h ≡ (L.set_paths (h.0.paths + length hs) h.0, path_words hs h.0.paths h.1)
+all_added_lem : (hs : List ℕ) (h : Held) → h.0.listed.paths + length hs ≤ 256 → all_added hs h ≡ (set_listed (record h.0.listed { paths = h.0.listed.paths + length hs }) h.0, path_words hs h.0.listed.paths h.1)
 unfolding all_added path_words
-all_added_lem [] h l = let e : h.0.paths ≡ h.0.paths + 0 = omega arith in ap (λ (n : ℕ). (L.set_paths n h.0, h.1)) e
+all_added_lem [] h l = let e : h.0.listed.paths ≡ h.0.listed.paths + 0 = omega arith in ap (λ (n : ℕ). (set_listed (record h.0.listed { paths = n }) h.0, h.1)) e
 all_added_lem (x ∷ xs) h l =
-    let g : Held = (L.set_paths (h.0.paths + 1) h.0, sets h.1 (PATHS + 2 * h.0.paths) (high x ∷ low x ∷ [])) in
-    let e : h.0.paths + 1 + length xs ≡ h.0.paths + suc (length xs) = omega arith in
+    let g : Held = (set_listed (record h.0.listed { paths = h.0.listed.paths + 1 }) h.0, sets h.1 (PATHS + 2 * h.0.listed.paths) (high x ∷ low x ∷ [])) in
+    let e : h.0.listed.paths + 1 + length xs ≡ h.0.listed.paths + suc (length xs) = omega arith in
     ap (all_added xs) (path_added_lem x h (omega arith)) ∙ all_added_lem xs g (omega arith)
-    ∙ ap (λ (n : ℕ). (L.set_paths n h.0, path_words xs (h.0.paths + 1) (sets h.1 (PATHS + 2 * h.0.paths) (high x ∷ low x ∷ [])))) e
+    ∙ ap (λ (n : ℕ). (set_listed (record h.0.listed { paths = n }) h.0, path_words xs (h.0.listed.paths + 1) (sets h.1 (PATHS + 2 * h.0.listed.paths) (high x ∷ low x ∷ [])))) e
 
 -- ---- a store more
 
@@ -204,10 +204,10 @@ module _ (v : MemberStore) where
       search common_rules
 
   -- what is found, where there is room
-  store_found : (h : Held) → h.0.stores < 192 → h.0.paths + length v.path ≤ 256 →
-      store_added (root_kind v.root) (root_index v.root) h.0.paths (length v.path) (all_added v.path h) ≡ (record { state = L.set_stores (h.0.stores + 1) (L.set_paths (h.0.paths + length v.path) h.0); index = h.0.stores }, store_words v h.0.stores h.0.paths h.1)
+  store_found : (h : Held) → h.0.listed.stores < 192 → h.0.listed.paths + length v.path ≤ 256 →
+      store_added (root_kind v.root) (root_index v.root) h.0.listed.paths (length v.path) (all_added v.path h) ≡ (record { state = set_listed (record h.0.listed { stores = h.0.listed.stores + 1; paths = h.0.listed.paths + length v.path }) h.0; index = h.0.listed.stores }, store_words v h.0.listed.stores h.0.listed.paths h.1)
   unfolding store_added appended_count appended_words
-  store_found h l m = rw (all_added_lem v.path h m, lt-ltb h.0.stores 192 l)
+  store_found h l m = rw (all_added_lem v.path h m, lt-ltb h.0.listed.stores 192 l)
 
   module _ (ws : List ℕ) (stores paths : ℕ) (enough : 16384 ≤ length ws) (less : stores < 192) (room : paths + length v.path ≤ 256) where
     abbrev entry : List ℕ
@@ -264,7 +264,7 @@ module _ (v : MemberStore) where
               (subst (λ (q : ℕ). StoreAt (paths + length v.path) vs q v) p new_store);
         }
 
-  pub store_enters : (tree : List ℕ) → Enters tree (store_state v) (λ s. length s.pools.stores) (λ h. store_added (root_kind v.root) (root_index v.root) h.0.paths (length v.path) (all_added v.path h))
+  pub store_enters : (tree : List ℕ) → Enters tree (store_state v) (λ s. length s.pools.stores) (λ h. store_added (root_kind v.root) (root_index v.root) h.0.listed.paths (length v.path) (all_added v.path h))
   store_enters tree = record {
     back = back_store;
     index = λ c A h f x. ap (λ (y : Found). y.0.index) (store_found h (less A h f x.tables.stores_held.the_stores.count) (room A h f x.tables.stores_held.path_count)) ∙ x.tables.stores_held.the_stores.count;
@@ -272,24 +272,24 @@ module _ (v : MemberStore) where
         let l = less A h f x.tables.stores_held.the_stores.count in
         let m = room A h f x.tables.stores_held.path_count in
         let e = x.enough in
-        let a = words_apart h.1 h.0.stores h.0.paths e l m in
+        let a = words_apart h.1 h.0.listed.stores h.0.listed.paths e l m in
         let n = a.same_length in
         let p = x.tables.stores_held.path_count in
         subst (λ (y : Found). Content tree c (y.0.state, y.1) (on_state (store_state v) A)) (sym (store_found h l m))
         (record {
           enough = omega (arith, n, e);
           beside = x.beside;
-          tables = stores_changed tree h.1 (store_words v h.0.stores h.0.paths h.1) A (back_store A f) a x.tables (record {
-            the_stores = more_stores h.1 h.0.stores h.0.paths e l m A.state.pools.stores x.tables.stores_held.the_stores;
+          tables = stores_changed tree h.1 (store_words v h.0.listed.stores h.0.listed.paths h.1) A (back_store A f) a x.tables (record {
+            the_stores = more_stores h.1 h.0.listed.stores h.0.listed.paths e l m A.state.pools.stores x.tables.stores_held.the_stores;
             path_count = omega (arith, p, entries_more A.state.pools.stores v);
           });
         });
   }
     where
-      less : (A : Abs) (h : Held) → Fits (on_state (store_state v) A) → h.0.stores ≡ length A.state.pools.stores → h.0.stores < 192
+      less : (A : Abs) (h : Held) → Fits (on_state (store_state v) A) → h.0.listed.stores ≡ length A.state.pools.stores → h.0.listed.stores < 192
       less A h f e = omega (arith, f.stores, length-append A.state.pools.stores (v ∷ []), e)
 
-      room : (A : Abs) (h : Held) → Fits (on_state (store_state v) A) → h.0.paths ≡ path_entries A.state.pools.stores → h.0.paths + length v.path ≤ 256
+      room : (A : Abs) (h : Held) → Fits (on_state (store_state v) A) → h.0.listed.paths ≡ path_entries A.state.pools.stores → h.0.listed.paths + length v.path ≤ 256
       room A h f e = omega (arith, f.paths, entries_more A.state.pools.stores v, e)
 
 -- ---- the lowerings
@@ -299,7 +299,7 @@ pub does_same : {tree : List ℕ} {f : Lowering} {c : Counts} {F G : Step} → (
 does_same {tree} {f} {c} e d = record { back = d.back; keep = λ A h k r. subst (λ (y : Held). Content tree c y (run f c A)) (e h) (d.keep A h k r) }
 
 module _ {tree : List ℕ} {c : Counts} where
-  pub store_with : (v : MemberStore) {f : ℕ → Lowering} {F : ℕ → Step} → ((i : ℕ) → Does tree (f i) c (F i)) → Does tree (with_store v f) c (λ h. going (store_added (root_kind v.root) (root_index v.root) h.0.paths (length v.path) (all_added v.path h)) F)
+  pub store_with : (v : MemberStore) {f : ℕ → Lowering} {F : ℕ → Step} → ((i : ℕ) → Does tree (f i) c (F i)) → Does tree (with_store v f) c (λ h. going (store_added (root_kind v.root) (root_index v.root) h.0.listed.paths (length v.path) (all_added v.path h)) F)
   store_with v d = with_does (store_enters v tree) d
 
 -- a member store's flags
@@ -315,7 +315,7 @@ module _ (tree : List ℕ) (c : Counts) (n p : ℕ) (m : P.Path) (e : PathEnd) (
   store_as_lem : (r : StoreRoot) (kind index : ℕ) → root_kind r ≡ kind → root_index r ≡ index → Does tree (rooted r) c (R.store_as tree kind index n p e.count q)
   unfolding R.store_as word_of
   store_as_lem r kind index a b =
-      does_same {F = λ h. going (store_added (root_kind r) (root_index r) h.0.paths (length m.hashes) (all_added m.hashes h)) λ k. instr 12 0 k q}
+      does_same {F = λ h. going (store_added (root_kind r) (root_index r) h.0.listed.paths (length m.hashes) (all_added m.hashes h)) λ k. instr 12 0 k q}
       (λ h. rw (a, b, sym (same.count_is), sym (same.adds h)))
       (store_with (record { root = r; path = m.hashes }) (λ i. instr_does (I.plain (I.store_member i q)) refl))
 

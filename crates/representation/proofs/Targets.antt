@@ -65,7 +65,7 @@ module _ {tree : List ℕ} {c : Counts} where
       let l5 = length-append k (x ∷ l) in
       let pk = past_length k in
       let en = r.enough in
-      let i = (h.0.base + past k 0) * 2 + 1 in
+      let i = (h.0.code.base + past k 0) * 2 + 1 in
       let v = L.place h.0 in
       let pv : v ≡ back_of x = placed r ∙ sym eb in
       let vs = set h.1 i v in
@@ -81,8 +81,8 @@ module _ {tree : List ℕ} {c : Counts} where
       let new : ItemAt vs p x = (a.below p (omega arith) ∙ right.0.0 ∙ sym ef, ap (λ (z : ℕ). z % 4294967296) (ap (λ (j : ℕ). get_or vs j 0) ei ∙ get_or-set_same h.1 i v 0 small ∙ pv)) in
       let rest : Rows 2 (ItemAt vs) (p + 2) l = rows_agree 2 ItemAt item_local h.1 vs (p + 2) l (λ j u z. a.above j (omega arith)) right.1 in
       let rows = subst (λ (q : List Item). Rows 2 (ItemAt vs) OPEN q) (append_assoc o k (x ∷ l)) (rows_append 2 (ItemAt vs) OPEN (o ++ k) (x ∷ l) left' (new, rest)) in
-      let m : min (h.0.base + past k 0) 65535 ≡ h.0.base + past k 0 = omega arith in
-      rw (m, le-leb (h.0.base + past k 0 + 1) 2048 (omega arith))
+      let m : min (h.0.code.base + past k 0) 65535 ≡ h.0.code.base + past k 0 = omega arith in
+      rw (m, le-leb (h.0.code.base + past k 0 + 1) 2048 (omega arith))
       (record {
         enough = omega (arith, a.same_length, en);
         beside = r.beside;
@@ -141,7 +141,7 @@ module _ {tree : List ℕ} {c : Counts} where
       let l6 = length-map l (aim check cleanup) in
       let pk = past_length k in
       let en = r.enough in
-      let i = h.0.base + at in
+      let i = h.0.code.base + at in
       let wo = weigh_length 2 (o ++ k) in
       let ei : OPEN + weigh 2 (o ++ k) ≡ i * 2 = omega arith in
       let rows0 : Rows 2 (ItemAt h.1) OPEN ((o ++ k) ++ l) = subst (λ (q : List Item). Rows 2 (ItemAt h.1) OPEN q) (sym (append_assoc o k l)) t.code_held.open_code.rows in
@@ -152,8 +152,8 @@ module _ {tree : List ℕ} {c : Counts} where
       let a = g.1 in
       let left' : Rows 2 (ItemAt vs) OPEN (o ++ k) = rows_agree 2 ItemAt item_local h.1 vs OPEN (o ++ k) (λ j u z. a.below j (omega arith)) left in
       let rows = subst (λ (q : List Item). Rows 2 (ItemAt vs) OPEN q) (append_assoc o k m) (rows_append 2 (ItemAt vs) OPEN (o ++ k) m left' (subst (λ (p : ℕ). Rows 2 (ItemAt vs) p m) (sym ei) g.0)) in
-      let e0 : min (h.0.base + at) 65535 ≡ h.0.base + at = omega arith in
-      let e1 : h.0.top - (h.0.base + at) ≡ length l = omega arith in
+      let e0 : min (h.0.code.base + at) 65535 ≡ h.0.code.base + at = omega arith in
+      let e1 : h.0.code.top - (h.0.code.base + at) ≡ length l = omega arith in
       rw (e0, e1)
       (record {
         enough = omega (arith, a.same_length, en);

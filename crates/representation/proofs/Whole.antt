@@ -33,12 +33,13 @@ use Rattle.semantics.proofs.Regions.{regions}
 use Rattle.semantics.proofs.Fitting.{program_fits}
 use Rattle.semantics.proofs.AcceptedTrees.{parsed_fits, parsed_short}
 use Rattle.workspace.specs.Layout.{OPEN, FINISHED, CONSTS, POSTS, HASHES, NAMES, TEMPS, MEMBERS, STORES, CALLS, ARGUMENTS}
+use Rattle.builder.specs.declared.Marks.{Marks}
 use Rattle.card.specs.Holds.{Each, InstructionIs, MemberIs, CallIs, Holds}
 use Rattle.lowering.specs.Parts as L
 use Rattle.lowering.specs.Rules as R
-use Rattle.representation.specs.Sections.{in_loop, sections_of}
+use Rattle.representation.specs.Sections.{in_loop, final_marks, sections_of}
 use Rattle.representation.proofs.Rows.{Rows}
-use Rattle.representation.proofs.Represents.{ItemAt, InstructionAt, WordAt, ConstIs, MemberAt, places, first_place, Filled, CallsFrom, filled, Abs, Fits, Table, Content, Does}
+use Rattle.representation.proofs.Represents.{consts, posts, hashes, names, temps, members, pool_held, ItemAt, InstructionAt, WordAt, ConstIs, MemberAt, places, first_place, Filled, CallsFrom, filled, Abs, Fits, Table, Content, Does}
 use Rattle.representation.proofs.Pools.{rows_at}
 use Rattle.representation.proofs.Laws.{thens}
 use Rattle.representation.proofs.Targets.{mk, aim_at}
@@ -204,15 +205,15 @@ members_held {tree} ws xs h k l =
 
 -- ---- the start and the end
 
-flags_final : (b : Bool) (v : ℕ) (f : S.Flags) → v ≡ f.bits → cond b v (bit_and v 2046) ≡ (cond {A = S.Flags} b f (S.not_float_only f)).bits
-unfolding S.not_float_only
-flags_final true v f q = q
-flags_final false v f q = ap (λ (n : ℕ). bit_and n 2046) q
+flags_final : (b : Bool) (m : Marks) (f : S.Flags) → m.bits ≡ f.bits → (final_marks b m).bits ≡ (cond {A = S.Flags} b f (S.not_float_only f)).bits
+unfolding final_marks S.not_float_only
+flags_final true m f q = q
+flags_final false m f q = ap (λ (n : ℕ). bit_and n 2046) q
 
-loop_final : (b v : Bool) (f : S.Flags) → v ≡ f.float_loop → cond b v false ≡ (cond {A = S.Flags} b f (S.not_float_only f)).float_loop
-unfolding S.not_float_only
-loop_final true v f q = q
-loop_final false v f q = refl
+loop_final : (b : Bool) (m : Marks) (f : S.Flags) → m.float_loop ≡ f.float_loop → (final_marks b m).float_loop ≡ (cond {A = S.Flags} b f (S.not_float_only f)).float_loop
+unfolding final_marks S.not_float_only
+loop_final true m f q = q
+loop_final false m f q = refl
 
 abbrev nothing_lowered : Abs
 nothing_lowered = mk [] [] false [] empty
@@ -224,14 +225,15 @@ begins : (tree words : List ℕ) → 16384 ≤ length words → Content tree not
 unfolding place_segments
 begins tree words h = record {
   enough = h;
-  beside = record { waiting_is = refl; counted = omega arith; bits_are = refl; float_loop_is = refl; number_is = refl };
+  beside = record { counted = omega arith; bits_are = refl; float_loop_is = refl; number_is = refl };
   tables = record {
     code_held = record {
       open_base = refl;
       open_code = no_entries;
       the_finished_code = no_entries;
+      waiting_is = refl;
     };
-    pools_held = record { the_consts = no_entries; the_posts = no_entries; the_hashes = no_entries; the_names = no_entries; the_temps = no_entries; the_members = no_entries };
+    pools_held = (no_entries, no_entries, no_entries, no_entries, no_entries, no_entries);
     stores_held = record { the_stores = no_entries; path_count = refl };
     calls_held = record { call_count = refl; the_calls = omega arith; the_open = tt; argument_count = refl };
   };
@@ -289,7 +291,9 @@ module _ (tree words : List ℕ) (small : Bytes tree) (passed : questions tree �
   -- the flags
   in_a_loop : in_loop (R.lowered tree words).0 ≡ in_float_loop x.state.deepest (length x.state.pools.temps)
   unfolding in_loop
-  in_a_loop = ap₂ in_float_loop (same_counts content.beside.counted.most_are) content.tables.pools_held.the_temps.count
+  in_a_loop =
+      ap₂ in_float_loop (same_counts content.beside.counted.most_are)
+      (pool_held tree (R.lowered tree words).1 (R.lowered tree words).0.pools x.state.pools content.tables.pools_held temps).count
 
   pub holds : Holds tree (R.lowered tree words).1 (sections_of (R.lowered tree words).0) (program (settings tree) (parse tree))
   unfolding sections_of program link final_flags
@@ -303,7 +307,7 @@ module _ (tree words : List ℕ) (small : Bytes tree) (passed : questions tree �
       let lm = length-map x.code (settle 0 0 0) in
       let la = length-map x.code (aim 0 0) in
       let pl = past_length x.code in
-      let eb : h.0.top ≡ b = omega arith in
+      let eb : h.0.code.top ≡ b = omega arith in
       let e0 : b + 0 ≡ b = omega arith in
       let ps : place_segments s.segments b ≡ map (relocate b) (place_segments s.segments 0) = ap (λ (m : ℕ). place_segments s.segments m) (sym e0) ∙ place_shift b 0 s.segments in
       let fit = fits_all.code.each in
@@ -311,6 +315,7 @@ module _ (tree words : List ℕ) (small : Bytes tree) (passed : questions tree �
       let fitf = subst (λ (l : List Instruction). Every FitInstruction l) ps (every_right FitInstruction (map (settle 0 0 0) x.code) (place_segments s.segments b) fit) in
       let lf = length-map (place_segments s.segments 0) (relocate b) in
       let il = in_a_loop in
+      let held = pool_held tree ws h.0.pools s t.pools_held in
       record {
         main = map (settle 0 0 0) x.code;
         finished = map (relocate b) (place_segments s.segments 0);
@@ -319,25 +324,25 @@ module _ (tree words : List ℕ) (small : Bytes tree) (passed : questions tree �
         main_is = main_is ws x.code t.code_held.open_code.rows fitm;
         finished_count = omega arith;
         finished_is = subst (λ (m : ℕ). Each halt (λ k i. InstructionIs ws m (FINISHED + 2 * k) i) (map (relocate b) (place_segments s.segments 0))) (sym eb) (finished_is ws b (place_segments s.segments 0) t.code_held.the_finished_code.rows fitf);
-        consts_count = sym t.pools_held.the_consts.count;
-        consts = λ k l. (each_rows 2 (ConstIs ws) CONSTS s.consts 0 t.pools_held.the_consts.rows k l).0;
+        consts_count = sym (held consts).count;
+        consts = λ k l. (each_rows 2 (ConstIs ws) CONSTS s.consts 0 (held consts).rows k l).0;
         further = s.posts;
         posts = refl;
-        posts_count = sym t.pools_held.the_posts.count;
-        posts_are = each_rows 2 _ POSTS s.posts identity t.pools_held.the_posts.rows;
-        hashes_count = sym t.pools_held.the_hashes.count;
-        hashes = each_rows 2 _ HASHES s.hashes 0 t.pools_held.the_hashes.rows;
-        names_count = sym t.pools_held.the_names.count;
-        names = each_rows 3 _ NAMES s.names _ t.pools_held.the_names.rows;
-        temps_count = sym t.pools_held.the_temps.count;
-        temps = λ k l. let q : TEMPS + 1 * k ≡ TEMPS + k = omega arith in ap (λ (j : ℕ). get_or ws j 0) (sym q) ∙ each_rows 1 (WordAt ws) TEMPS s.temps 0 t.pools_held.the_temps.rows k l;
-        members_count = length-map s.members member_entry ∙ sym t.pools_held.the_members.count;
-        members = members_held ws s.members t.pools_held.the_members.rows;
+        posts_count = sym (held posts).count;
+        posts_are = each_rows 2 _ POSTS s.posts identity (held posts).rows;
+        hashes_count = sym (held hashes).count;
+        hashes = each_rows 2 _ HASHES s.hashes 0 (held hashes).rows;
+        names_count = sym (held names).count;
+        names = each_rows 3 _ NAMES s.names _ (held names).rows;
+        temps_count = sym (held temps).count;
+        temps = λ k l. let q : TEMPS + 1 * k ≡ TEMPS + k = omega arith in ap (λ (j : ℕ). get_or ws j 0) (sym q) ∙ each_rows 1 (WordAt ws) TEMPS s.temps 0 (held temps).rows k l;
+        members_count = length-map s.members member_entry ∙ sym (held members).count;
+        members = members_held ws s.members (held members).rows;
         stores_count = sym t.stores_held.the_stores.count;
         stores = λ k l. (each_rows 4 _ STORES s.stores _ t.stores_held.the_stores.rows k l).0;
         calls_count = length-map s.calls (place_call b) ∙ sym t.calls_held.call_count;
-        calls = subst (λ (m : ℕ). Each (record { index = 0; impl = 0; starts = [] }) (λ k q. CallIs ws m (CALLS + 4 * k) q) (map (place_call b) s.calls)) (sym eb) (calls_placed ws b s.calls (calls_all ws h.0.arguments CALLS 0 s.calls (let ac = t.calls_held.argument_count in omega arith) t.calls_held.the_calls));
+        calls = subst (λ (m : ℕ). Each (record { index = 0; impl = 0; starts = [] }) (λ k q. CallIs ws m (CALLS + 4 * k) q) (map (place_call b) s.calls)) (sym eb) (calls_placed ws b s.calls (calls_all ws h.0.listed.arguments CALLS 0 s.calls (let ac = t.calls_held.argument_count in omega arith) t.calls_held.the_calls));
         depths = same_counts bs.counted.most_are;
-        flags = rw il (flags_final _ h.0.flags x.state.flags bs.bits_are);
-        float_loop = rw il (loop_final _ h.0.float_loop x.state.flags bs.float_loop_is);
+        flags = rw il (flags_final _ h.0.marks x.state.flags bs.bits_are);
+        float_loop = rw il (loop_final _ h.0.marks x.state.flags bs.float_loop_is);
       }

@@ -3,26 +3,23 @@ use Rattle.std.specs.Prelude.{Bool, false, cond}
 use Rattle.std.specs.Int.Bits.{bit_and}
 use Rattle.program.specs.Counts.{counts_of}
 use Rattle.program.specs.Kinds.{in_float_loop, NOT_FLOAT}
+use Rattle.builder.specs.declared.Marks.{Marks}
 use Rattle.card.specs.declared.Sections.{Sections}
 use Rattle.lowering.specs.Held.{State}
 
 -- 01, Modules: "Stack over 16, loops over 4, handlers over 4 or temps over 8 clears FLOAT_ONLY and float_loop."
 unfoldable pub in_loop : State → Bool
-in_loop s = in_float_loop (counts_of s.depth.max) s.temps
+in_loop s = in_float_loop (counts_of s.depth.max) s.pools.temps
+
+unfoldable pub final_marks : Bool → Marks → Marks
+final_marks fits m = cond fits m (record { bits = bit_and m.bits NOT_FLOAT; float_loop = false })
 
 unfoldable pub sections_of : State → Sections
 sections_of s = record {
-  code = s.top;
-  finished = s.finished;
-  consts = s.consts;
-  posts = s.posts;
-  hashes = s.hashes;
-  names = s.names;
-  temps = s.temps;
-  members = s.members;
-  stores = s.stores;
-  calls = s.calls;
+  code = s.code.top;
+  finished = s.code.finished;
+  pools = s.pools;
+  listed = s.listed;
   depths = s.depth.max;
-  flags = cond (in_loop s) s.flags (bit_and s.flags NOT_FLOAT);
-  float_loop = cond (in_loop s) s.float_loop false;
+  marks = final_marks (in_loop s) s.marks;
 }

@@ -1,15 +1,21 @@
-// Counts of 16 bits: one that would be more than 65535 stays there. The library's method, under the name that the definitions have.
-ghost use Rattle.std.specs.Prelude.{◌≡◌};
-ghost use Rattle.workspace.specs.Counts.{sum};
+// How many entries of the lent workspace's regions are in use.
 
-pub fn sum(a: u16, b: u16) -> u16
-    ensures { result ≡ sum a b }
-{
-    a.saturating_add(b)
+// Of each pool: an entry is looked up by its key before it is added.
+#[derive(Clone, Copy, Drop)]
+pub struct Pools {
+    pub consts: u16,
+    pub posts: u16,
+    pub hashes: u16,
+    pub names: u16,
+    pub temps: u16,
+    pub members: u16,
 }
 
-pub fn one_more(n: u16) -> u16
-    ensures { result ≡ sum n 1 }
-{
-    n.saturating_add(1)
+// Of what is added and never merged.
+#[derive(Clone, Copy, Drop)]
+pub struct Listed {
+    pub stores: u16,
+    pub paths: u16,
+    pub calls: u16,
+    pub arguments: u16,
 }
