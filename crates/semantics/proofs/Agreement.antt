@@ -131,18 +131,24 @@ module _ (S : Settings) (P : Program) (E : ℕ) (r : Result) where
   unary_s false p = with_p p _ (λ q. logs (Action.e_not q)) (λ k. pl (Plain.not k))
 
   -- a child and the form with a constant, or two children
-  paired_s : {e : Scope} (f : ℕ → Lowering) (i : ℕ → Taking) (x y : Post → Action) → ((k : ℕ) → S' e (f k) (logs (x (post_at P k)))) → ((k : ℕ) → S' e (put (taking (i k))) (takes 1 (y (post_at P k))))
-      → (p : Post) {ls : List Lowerings} {ms : List Walkings} → Zip T' ls ms → S' e (L.paired f i p ls e.loop) (K.paired (x (shown p)) (y (shown p)) ms e)
+  paired_s : {e : Scope} (f : ℕ → Lowering) (i : ℕ → Taking) (x y : Post → Action) → ((k : ℕ) → S' e (f k) (logs (x (post_at P k))))
+      → ((k : ℕ) → S' e (put (taking (i k))) (takes 1 (y (post_at P k)))) → (p : Post) {ls : List Lowerings} {ms : List Walkings} → Zip T' ls ms
+      → S' e (L.paired f i p ls e.loop) (K.paired (x (shown p)) (y (shown p)) ms e)
   unfolding L.paired K.paired K.bounds
   paired_s f i x y hx hy p znil = no_s
   paired_s {e} f i x y hx hy p (zcons {b = m} a znil) = with_p p _ (λ q. m.expr e then logs (x q)) λ k. a.expr e ⨟ hx k
-  paired_s {e} f i x y hx hy p (zcons {b = m} a (zcons {b = n} b z)) = with_p p _ (λ q. m.expr e then pushes then n.expr e then takes 1 (y q)) λ k. Z.pushed_s P E r (a.expr e) (b.expr e ⨟ hy k)
+  paired_s {e} f i x y hx hy p (zcons {b = m} a (zcons {b = n} b z)) =
+      with_p p _ (λ q. m.expr e then pushes then n.expr e then takes 1 (y q)) λ k. Z.pushed_s P E r (a.expr e) (b.expr e ⨟ hy k)
 
-  const_operand_s : {e : Scope} (i : ℕ → ℕ → Plain) (x : ℕ → Action) (v : Payload) (q : ℕ) → ((k : ℕ) → S' e (put (plain (i k q))) (logs (x (const_at P k)))) → S' e (const_operand i v q) (logs (x (const_of v)))
+  const_operand_s : {e : Scope} (i : ℕ → ℕ → Plain) (x : ℕ → Action) (v : Payload) (q : ℕ) → ((k : ℕ) → S' e (put (plain (i k q))) (logs (x (const_at P k))))
+      → S' e (const_operand i v q) (logs (x (const_of v)))
   unfolding const_operand
   const_operand_s i x v q h = Z.with_const_s P E r _ _ (λ t. logs (x t)) h
 
-  equal_const_s : {e : Scope} (o : ℕ) (v : Payload) (q : ℕ) → S' e (equal_const o v q) (logs (as_hash v (e_eq_const o (float_of v) (post_at P q)) (λ x. e_eq_hash o x (post_at P q))))
+  abbrev equal_shown : ℕ → Payload → Post → Action
+  equal_shown o v q = as_hash v (e_eq_const o (float_of v) q) (λ x. e_eq_hash o x q)
+
+  equal_const_s : {e : Scope} (o : ℕ) (v : Payload) (q : ℕ) → S' e (equal_const o v q) (logs (equal_shown o v (post_at P q)))
   unfolding equal_const plain_action
   equal_const_s {e} o v q = hash_rel (λ f x. S' e f (logs x)) v
       (Z.with_const_s P E r _ _ (λ t. logs (e_eq_const o t (post_at P q))) (λ k. pl (eq_const o k q)))
@@ -171,8 +177,9 @@ module _ (S : Settings) (P : Program) (E : ℕ) (r : Result) where
   plain_s R.this p v ts h e = with_p p _ (λ q. logs (e_this q)) (λ k. pl (this k))
   plain_s R.load p v ts h e = loaded_s v p e
   plain_s R.query p v ts h e = query_rel (S' e) v no_s (λ i m. Z.flagged_s P E r _ (X.query_s P E r i m p h))
-  plain_s (R.compare o) p v ts h e = paired_s _ _ (e_cmp_const o (const_of v)) (e_cmp o) (λ q. const_operand_s _ (λ t. e_cmp_const o t (post_at P q)) v q (λ k. pl (cmp_const o k q))) (λ k. Z.taking_s P E r (cmp o k)) p h
-  plain_s (R.equal o) p v ts h e = paired_s _ _ (λ q. as_hash v (e_eq_const o (float_of v) q) (λ x. e_eq_hash o x q)) (e_eq o) (equal_const_s o v) (λ k. Z.taking_s P E r (eq o k)) p h
+  plain_s (R.compare o) p v ts h e = paired_s _ (cmp o) (e_cmp_const o (const_of v)) (e_cmp o)
+      (λ q. const_operand_s (cmp_const o) (λ t. e_cmp_const o t (post_at P q)) v q (λ k. pl (cmp_const o k q))) (λ k. Z.taking_s P E r (cmp o k)) p h
+  plain_s (R.equal o) p v ts h e = paired_s _ (eq o) (equal_shown o v) (e_eq o) (equal_const_s o v) (λ k. Z.taking_s P E r (eq o k)) p h
   plain_s (R.logic j) p v ts (zcons {b = m} {qs = ms} a z) e = with_p p _ (λ q. K.logic (cond j (e_and_step q) (e_or_step q)) (cond j (e_and_last q) (e_or_last q)) m ms e) (λ q. junction_s j q a z e)
   plain_s R.coalesce p v ts (zcons a (zcons b z)) e = Y.coalesce_s P E r (a.expr (in_a_handler e)) (b.expr e) ⨟ post_s p
   plain_s R.conditional p v ts (zcons a (zcons b z)) e = a.expr e ⨟ Y.branch_s P E r (b.expr e) (other_s 0 z e) ⨟ post_s p

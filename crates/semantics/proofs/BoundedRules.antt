@@ -16,7 +16,7 @@ use Rattle.semantics.proofs.Relations.{Zip, znil, zcons, zip_length, either_rel,
 use Rattle.semantics.specs.Demand3.{Within}
 use Rattle.semantics.specs.Link.{lowered}
 use Rattle.semantics.specs.Lowering.{Lowerings, member_read, with_root, member_store, is_member, target_refusal, unless, const_operand, equal_const, array_element, lower_plain, lower_rule, lower, lowers}
-use Rattle.semantics.specs.Payloads.{one, Path, path}
+use Rattle.semantics.specs.Payloads.{as_hash, one, Path, path}
 use Rattle.semantics.specs.Pieces.{Lowering, flush, failing, const_pool, hash_pool, name_pool, member_pool, constant}
 use Rattle.ast.specs.Header.{Settings}
 use Rattle.ast.specs.Rules.{Rule, rule_at}
@@ -97,14 +97,21 @@ loaded_b v p q e = post_b p _ λ k. kind_rel Fine v (name_rel Fine 3 v no_b (λ 
     (λ n. flagged_b _ (interned_b name_pool n _ (λ i. load_b (reading (load_var i k)) _ e)))
 
 -- a child and the form with a constant, or two children
-paired_b : (f : ℕ → Lowering) (i : ℕ → Taking) (x y : Action) → ((q : ℕ) → Fine (f q) (logs x)) → (p : Post) {ls : List Lowerings} {ms : List Walkings} → Zip Whole ls ms → (e : Scope) → Fine (L.paired f i p ls e.loop) (K.paired x y ms e)
+paired_b : (f : ℕ → Lowering) (i : ℕ → Taking) (x y : Action) → ((q : ℕ) → Fine (f q) (logs x)) → (p : Post) {ls : List Lowerings} {ms : List Walkings}
+    → Zip Whole ls ms → (e : Scope) → Fine (L.paired f i p ls e.loop) (K.paired x y ms e)
 unfolding L.paired K.paired K.bounds
 paired_b f i x y h p znil e = no_b
 paired_b f i x y h p (zcons a znil) e = post_b p _ λ q. a.expr e then_b h q
 paired_b f i x y h p (zcons a (zcons b z)) e = post_b p _ λ q. pushed_fine (a.expr e) (b.expr e then_b take_b (taking (i q)) 1 y)
 
+equal_const_b : (o : ℕ) (v : Payload) (x : Action) (y : ℕ → Action) (q : ℕ) → Fine (equal_const o v q) (logs (as_hash v x y))
+unfolding equal_const
+equal_const_b o v x y q = hash_rel (λ f u. Fine f (logs u)) v (interned_b const_pool _ _ (λ k. put_b (plain (eq_const o k q)) x))
+    (λ h. flagged_b _ (interned_b hash_pool h _ (λ k. put_b (plain (eq_hash o k q)) (y h))))
+
 -- two children, and what takes k operands
-bounds_b : (i : ℕ → Taking) (k : ℕ) (x : Action) (p : Post) {a b : Lowerings} {m w : Walkings} → Whole a m → Whole b w → (e : Scope) → Bound (L.bounds i p a b e.loop) (K.bounds k x m w e) (λ c. operands- k (operand+ c))
+bounds_b : (i : ℕ → Taking) (k : ℕ) (x : Action) (p : Post) {a b : Lowerings} {m w : Walkings} → Whole a m → Whole b w → (e : Scope)
+    → Bound (L.bounds i p a b e.loop) (K.bounds k x m w e) (λ c. operands- k (operand+ c))
 unfolding L.bounds K.bounds
 bounds_b i k x p a b e = pushed_b (a.expr e) (b.expr e then_b post_b p _ (λ q. take_b (taking (i q)) k x))
 
@@ -117,7 +124,7 @@ module _ (S : Settings) where
   array_b false p v ts h e = failing_b 4 pass_less
 
   plain_b : (r : R.Plain) (p : Post) (v : Payload) (ts : Forest) {ls : List Lowerings} {ms : List Walkings} → Zip Whole ls ms → (e : Scope) → Fine (lower_plain S r p v ts ls e.loop) (walk_plain S r p v ts ms e)
-  unfolding lower_plain walk_plain const_operand equal_const
+  unfolding lower_plain walk_plain const_operand
   plain_b R.array p v ts h e = array_b S.from_host p v ts h e
   plain_b R.uses_arrays p v ts h e = failing_b 4 pass_less
   plain_b R.uses_resources p v ts h e = failing_b 5 pass_less
@@ -128,7 +135,7 @@ module _ (S : Settings) where
   plain_b R.load p v ts h e = loaded_b v p _ e
   plain_b R.query p v ts h e = query_rel Fine v no_b (λ i m. flagged_b _ (query_b e i m p _ h))
   plain_b (R.compare o) p v ts h e = paired_b _ (cmp o) _ _ (λ q. interned_b const_pool _ _ (λ k. put_b (plain (cmp_const o k q)) _)) p h e
-  plain_b (R.equal o) p v ts h e = paired_b _ (eq o) _ _ (λ q. hash_rel (λ f x. Fine f (logs x)) v (interned_b const_pool _ _ (λ k. put_b (plain (eq_const o k q)) _)) (λ x. flagged_b _ (interned_b hash_pool x _ (λ k. put_b (plain (eq_hash o k q)) _)))) p h e
+  plain_b (R.equal o) p v ts h e = paired_b _ (eq o) _ _ (equal_const_b o v _ _) p h e
   plain_b (R.logic j) p v ts (zcons a z) e = post_b p _ λ q. junction_b (cond j (and_step q) (or_step q)) (cond j (and_last q) (or_last q)) _ _ a z e
   plain_b R.coalesce p v ts (zcons a (zcons b z)) e = coalesce_b (a.expr (in_a_handler e)) (b.expr e) then_b post_instr_b (is_identity p) p
   plain_b R.conditional p v ts (zcons a (zcons b z)) e = a.expr e then_b branch_b (b.expr e) (other_b 0 z e) then_b post_instr_b (is_identity p) p

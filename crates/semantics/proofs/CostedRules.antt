@@ -192,14 +192,16 @@ module _ (w : Weight) where
   equal_const_c o v q = hash_one (λ f. Cost f (w.co + w.ha + w.i)) v (C.weak w (C.with_const_c w _ _ (λ k. C.put_c w (plain (eq_const o k q)))) (omega arith)) (λ h e. C.flagged_c w _ (C.weak w (C.with_hash_c w h _ (λ k. C.put_c w (plain (eq_hash o k q)))) (omega arith)))
 
   -- a child and the form with a constant, or two children
-  paired_c : (f : ℕ → Lowering) (i : ℕ → Taking) {m : ℕ} → ((q : ℕ) → Cost (f q) m) → (p : Post) {xs : List Lowerings} {ts : Forest} → Pays xs ts → (l : Bool) → Cost (L.paired f i p xs l) (w.po + w.i + m + costs ts)
+  paired_c : (f : ℕ → Lowering) (i : ℕ → Taking) {m : ℕ} → ((q : ℕ) → Cost (f q) m) → (p : Post) {xs : List Lowerings} {ts : Forest} → Pays xs ts → (l : Bool)
+      → Cost (L.paired f i p xs l) (w.po + w.i + m + costs ts)
   unfolding L.paired cost
   paired_c f i h p pnil l = C.failing_c w 7
   paired_c f i h p (pcons a pnil) l = C.weak w (C.post_c w p _ λ q. a.expr l then_c h q) (omega arith)
   paired_c f i h p (pcons a (pcons b z)) l = C.weak w (C.post_c w p _ λ q. C.pushed_c w (a.expr l) (b.expr l then_c C.put_c w (taking (i q)))) (omega arith)
 
   -- two children
-  bounds_c : (i : ℕ → Taking) (p : Post) {a b : Lowerings} {j k : ℕ} → Whole a j → Whole b k → (l : Bool) → Cost (L.bounds i p a b l) (w.po + w.i + w.i + j + k)
+  bounds_c : (i : ℕ → Taking) (p : Post) {a b : Lowerings} {j k : ℕ} → Whole a j → Whole b k → (l : Bool)
+      → Cost (L.bounds i p a b l) (w.po + w.i + w.i + j + k)
   unfolding L.bounds
   bounds_c i p a b l = C.weak w (C.pushed_c w (a.expr l) (b.expr l then_c C.post_c w p _ (λ q. C.put_c w (taking (i q))))) (omega arith)
 

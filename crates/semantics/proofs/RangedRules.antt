@@ -15,7 +15,7 @@ use Rattle.numeric.specs.Post.{Post, is_identity}
 use Rattle.program.specs.Fits.{Below, Every, FitPost, root_index}
 use Rattle.program.specs.Image.{bit, word_of}
 use Rattle.program.specs.Instruction as Instr
-use Rattle.program.specs.Instruction.{Taking, post, hash, resource, this, negate, not, and_last, or_last, pointer_leave, store_var, store_temp, store_member, cmp_const, eq_const, eq_hash, add_acc, add_last, mul, div, cmp, eq, load_var, load_temp, load_ctx, member, div_guard, and_step, or_step, pointer_enter, jump_if_falsy, EachNext, each_next_var, each_next_temp, plain, taking, reading, guard, jump, handler_push, handler_pop, return, each_next}
+use Rattle.program.specs.Instruction.{Plain, Taking, post, hash, resource, this, negate, not, and_last, or_last, pointer_leave, store_var, store_temp, store_member, cmp_const, eq_const, eq_hash, add_acc, add_last, mul, div, cmp, eq, load_var, load_temp, load_ctx, member, div_guard, and_step, or_step, pointer_enter, jump_if_falsy, EachNext, each_next_var, each_next_temp, plain, taking, reading, guard, jump, handler_push, handler_pop, return, each_next}
 use Rattle.program.specs.Kinds.{USES_RANDOM, USES_RANDOM_OP}
 use Rattle.program.specs.Program.{StoreRoot, root_var, root_temp, root_other}
 use Rattle.semantics.proofs.FitTrees.{PayloadFits, float_fits, const_fits, string_fits, resource_fits, TreeFits, ForestFits, name_r, hash_r, math_r, asked_r, kind_r}
@@ -120,15 +120,25 @@ statements_r o fo (a ∷ xs) z l = z.0.statement l then_r statements_r o fo xs z
 up_same : Up same
 up_same = record { by = λ c. omega arith }
 
+-- an instruction that takes operands, whose post fits
+abbrev FitsTaking : (ℕ → Taking) → Type 0
+FitsTaking i = (q : ℕ) → Under (q ∷ []) → Fits (instr (taking (i q)))
+
 -- a child and the form with a constant, or two children
-paired_r : (f : ℕ → Lowering) (i : ℕ → Taking) → ((q : ℕ) → Ranged (q ∷ []) (f q)) → ((q : ℕ) → Under (q ∷ []) → Fits (instr (taking (i q)))) → (p : Post) → FitPost p → (xs : List Lowerings) → Every Ranges xs → (l : Bool) → Ranged [] (paired f i p xs l)
+paired_r : (f : ℕ → Lowering) (i : ℕ → Taking) → ((q : ℕ) → Ranged (q ∷ []) (f q)) → FitsTaking i → (p : Post) → FitPost p
+    → (xs : List Lowerings) → Every Ranges xs → (l : Bool) → Ranged [] (paired f i p xs l)
 unfolding paired
 paired_r f i hf hi p fp [] z l = failing_r 7
 paired_r f i hf hi p fp (a ∷ []) z l = post_r p fp _ λ q. free (z.0.expr l) then_r hf q
 paired_r f i hf hi p fp (a ∷ b ∷ xs) z l = post_r p fp _ λ q. pushed_r (free (z.0.expr l)) (free (z.1.0.expr l) then_r put_r (taking (i q)) (hi q))
 
+const_operand_r : (i : ℕ → ℕ → Plain) → ((k q : ℕ) → Under (k ∷ q ∷ []) → Fits (instr (plain (i k q)))) → (v : Payload) → PayloadFits v
+    → (q : ℕ) → Ranged (q ∷ []) (const_operand i v q)
+unfolding const_operand
+const_operand_r i h v fv q = with_const_r _ (const_fits v fv) _ (λ k. put_r (plain (i k q)) (h k q))
+
 -- two children
-bounds_r : (i : ℕ → Taking) → ((q : ℕ) → Under (q ∷ []) → Fits (instr (taking (i q)))) → (p : Post) → FitPost p → (a b : Lowerings) → Ranges a → Ranges b → (l : Bool) → Ranged [] (bounds i p a b l)
+bounds_r : (i : ℕ → Taking) → FitsTaking i → (p : Post) → FitPost p → (a b : Lowerings) → Ranges a → Ranges b → (l : Bool) → Ranged [] (bounds i p a b l)
 unfolding bounds
 bounds_r i h p fp a b fa fb l = pushed_r (fa.expr l) (fb.expr l then_r post_r p fp _ (λ q. put_r (taking (i q)) (h q)))
 
@@ -196,7 +206,7 @@ table_small op = small_at rules (rule_of op) rules_small
 
 module _ (S : Settings) where
   plain_r : (r : R.Plain) → small_plain r ≡ true → (p : Post) → FitPost p → (v : Payload) → PayloadFits v → (ts : Forest) → ForestFits ts → (xs : List Lowerings) → Every Ranges xs → (l : Bool) → Ranged [] (lower_plain S r p v ts xs l)
-  unfolding lower_plain const_operand small_plain settle relocate word_of
+  unfolding lower_plain small_plain settle relocate word_of
   plain_r R.array e p fp v fv ts ft xs z l = array_r S.from_host p fp v fv xs z l
   plain_r R.uses_arrays e p fp v fv ts ft xs z l = failing_r 5
   plain_r R.uses_resources e p fp v fv ts ft xs z l = failing_r 6
@@ -206,8 +216,12 @@ module _ (S : Settings) where
   plain_r R.this e p fp v fv ts ft xs z l = post_r p fp _ (λ q. put_r (plain (this q)) (λ u b h. omega (arith, u.0)))
   plain_r R.load e p fp v fv ts ft xs z l = loaded_r v fv p fp
   plain_r R.query e p fp v fv ts ft xs z l = asked_r (Ranged []) v fv (failing_r 7) (λ i m fi fm. flagged_r _ (queried_fit (is_empty xs)) (query_r i m p fi fm fp xs z))
-  plain_r (R.compare o) e p fp v fv ts ft xs z l = let fo : o ≤ 3 = leb-true o 3 e in paired_r _ (cmp o) (λ q. with_const_r _ (const_fits v fv) _ (λ k. put_r (plain (cmp_const o k q)) (λ u b h. omega (arith, u.0, u.1.0)))) (λ q u b h. omega (arith, u.0)) p fp xs z l
-  plain_r (R.equal o) e p fp v fv ts ft xs z l = let fo : o ≤ 1 = leb-true o 1 e in paired_r _ (eq o) (equal_const_r o (omega arith) v fv) (λ q u b h. omega (arith, u.0)) p fp xs z l
+  plain_r (R.compare o) e p fp v fv ts ft xs z l =
+      let fo : o ≤ 3 = leb-true o 3 e in
+      paired_r _ (cmp o) (const_operand_r (cmp_const o) (λ k q u b h. omega (arith, u.0, u.1.0)) v fv) (λ q u b h. omega (arith, u.0)) p fp xs z l
+  plain_r (R.equal o) e p fp v fv ts ft xs z l =
+      let fo : o ≤ 1 = leb-true o 1 e in
+      paired_r _ (eq o) (equal_const_r o (omega arith) v fv) (λ q u b h. omega (arith, u.0)) p fp xs z l
   plain_r (R.logic j) e p fp v fv ts ft (a ∷ xs) z l = post_r p fp _ λ q. junction_r j q a z.0 xs z.1 l
   plain_r R.coalesce e p fp v fv ts ft (a ∷ b ∷ xs) z l = fork_r handler_push handler_pop handler+ (record { by = λ c. omega arith }) (λ t h b i. let e = shift b t in omega arith) (λ t h b i. let e = shift b t in omega arith) (z.0.expr l) (z.1.0.expr l) then_r post_instruction_r (is_identity p) p fp
   plain_r R.conditional e p fp v fv ts ft (a ∷ b ∷ xs) z l = z.0.expr l then_r fork_r (guard jump_if_falsy) jump same up_same (λ t h b i. let e = shift b t in omega arith) fits_jump (z.1.0.expr l) (other_r xs z.1.1 0 (omega arith) l) then_r post_instruction_r (is_identity p) p fp
