@@ -7,6 +7,7 @@ use native.Mathlib.Omega.{arith}
 use lib.ListN.{length, length-append}
 use Rattle.wire.specs.Bytes.{be}
 use Rattle.card.specs.declared.Sections.{Sections}
+use Rattle.card.specs.declared.TheConstants.{CLOSING}
 use Rattle.workspace.specs.Layout.{TEMPS}
 use Rattle.card.specs.Written.{cat, joined}
 pub use Rattle.card.proofs.Join.{run_length, field_length, no_entries, entry_more}
@@ -60,6 +61,6 @@ pub temps : (ws : List ℕ) (n : ℕ) → length (temps_section ws n) ≡ 4 + 2 
 unfolding temps_section
 temps ws n = let h : length (cat (half_entry ws TEMPS) n) ≡ 2 * n = alike _ 2 n (λ i. field_length 2 _) in simp (length-append, field_length) (omega arith)
 
-pub closing : (c : Sections) → length (closing_bytes c) ≡ 9
+pub closing : (c : Sections) → length (closing_bytes c) ≡ CLOSING
 unfolding closing_bytes joined
 closing c = simp (length-append, field_length)

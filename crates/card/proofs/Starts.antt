@@ -8,6 +8,7 @@ use lib.Seq.{sets, drop_at, take_at, drop-cons}
 use Rattle.wire.specs.Bytes.{be}
 use Rattle.wire.proofs.Numbers.{be_length}
 use Rattle.card.specs.declared.Sections.{Sections}
+use Rattle.card.specs.declared.TheConstants.{CLOSING}
 use Rattle.card.specs.declared.measure.Sums.{Sums}
 use Rattle.card.specs.Written.{Wrote, joined}
 use Rattle.card.specs.Image.{sections_of, closing_bytes, body_of, image_of, laid}
@@ -58,7 +59,7 @@ module _ (tree ws : List ℕ) (c : Sections) where
   closing_at = omega (arith, image_size)
 
   -- the image's length by the sum that ends with code
-  pub total : {s : Sums} → s ≡ sums_of tree ws c → 5 + s.code + 9 ≡ length image
+  pub total : {s : Sums} → s ≡ sums_of tree ws c → 5 + s.code + CLOSING ≡ length image
   unfolding sums_of
   total {s} e = let h : s.code ≡ sum 0 = ap (λ (x : Sums). x.code) e in omega (arith, h, image_size, closing c)
 

@@ -3,6 +3,7 @@
 
 ghost use Rattle.std.specs.Prelude.{◌≡◌, [], ◌++◌, ◌+◌, ◌*◌, ◌^◌, ◌≤◌, ◌<◌, length};
 ghost use Rattle.wire.specs.Bytes.{be};
+ghost use Rattle.card.specs.declared.TheConstants.{CLOSING};
 ghost use Rattle.card.specs.Written.{Wrote, cat};
 ghost use Rattle.card.specs.Puts.{Room, Puts};
 ghost use Rattle.card.specs.Image.{code_section, posts_section, hashes_section, closing_bytes, body_of, image_of};
@@ -82,8 +83,8 @@ impl Writer<'_> {
 
     #[tactic(auto, using(crate::proofs::Join::writing), unfolding(crate::specs::Image::closing_bytes, crate::specs::Written::joined, program::specs::Image::bit))]
     fn closing(&mut self, c: Sections)
-        requires { Room self.old 9 }
-        ensures { Puts self.old self.new (closing_bytes c) 9 }
+        requires { Room self.old CLOSING }
+        ensures { Puts self.old self.new (closing_bytes c) CLOSING }
     {
         self.put(c.depths.stack);
         self.put(c.depths.loops);
