@@ -1,5 +1,4 @@
 pub mod Header
-pub mod Operators
 pub mod NameKinds
 pub mod Rules
 pub mod Tree

@@ -3,7 +3,6 @@
 
 pub mod header;
 pub mod kinds;
-pub mod operators;
 pub mod rules;
 pub mod subs;
 
@@ -21,7 +20,7 @@ pub fn rule(op: u8) -> Rule
     Rule::from(number(op))
 }
 
-// Its number: 1 to 51, 52 for a refusal, 0 where the code is unknown. Public, and of any byte, as the table is.
+// The number of an operator code's rule: 1 to 51, 52 for a refusal, 0 where the code is unknown. Public, and of any byte, as the table is.
 pub fn number(op: u8) -> u8
     ensures { result ≡ rule_of op }
 {

@@ -1,4 +1,4 @@
-// The rule of each operator code, by its number.
+// The rules of operators, and the rule of each operator code by its number.
 ghost use Rattle.ast.specs.Meaning.{HasNumber};
 
 use crate::subs::{Comparison, Equality};
@@ -70,22 +70,26 @@ pub static TABLE: [u8; 256] = RULES;
 static BY_NUMBER: [Rule; 53] = [
     Rule::Plain(Plain::Refused),
     Rule::Plain(Plain::Array),
+    // ArrayVariable, ExpressionArray; GeometryVariable, MaterialVariable, TextureVariable
     Rule::Plain(Plain::UsesArrays),
     Rule::Plain(Plain::UsesArrays),
     Rule::Plain(Plain::UsesResources),
     Rule::Plain(Plain::UsesResources),
     Rule::Plain(Plain::UsesResources),
+    // Float, StringLiteral; Geometry, Material, Texture; This
     Rule::Plain(Plain::Float),
     Rule::Plain(Plain::String),
     Rule::Plain(Plain::Resource),
     Rule::Plain(Plain::Resource),
     Rule::Plain(Plain::Resource),
     Rule::Plain(Plain::This),
+    // EntityVariable, TempVariable, ContextVariable; MemberAccessor, QueryFunction
     Rule::Entity,
     Rule::Plain(Plain::Load),
     Rule::Plain(Plain::Load),
     Rule::Member,
     Rule::Plain(Plain::Query),
+    // LessThan, LessEqual, GreaterEqual, GreaterThan; LogicalEqual, LogicalNotEqual, LogicalAnd, LogicalOr
     Rule::Plain(Plain::Compare(Comparison::Lt)),
     Rule::Plain(Plain::Compare(Comparison::Le)),
     Rule::Plain(Plain::Compare(Comparison::Ge)),
@@ -94,6 +98,7 @@ static BY_NUMBER: [Rule; 53] = [
     Rule::Plain(Plain::Equal(Equality::Ne)),
     Rule::Plain(Plain::And),
     Rule::Plain(Plain::Or),
+    // NullCoalescing, Conditional, Semicolon, Loop, ForEach, Break, Continue, Assignment, Pointer
     Rule::Plain(Plain::Coalesce),
     Rule::Plain(Plain::Conditional),
     Rule::Plain(Plain::Statements),
@@ -103,6 +108,7 @@ static BY_NUMBER: [Rule; 53] = [
     Rule::Plain(Plain::Continue),
     Rule::Plain(Plain::Assign),
     Rule::Pointer,
+    // LeftBracket, LeftParenthesis; Negate, LogicalNot, Add, Mul, Div, HostMath, HostMathVolatile
     Rule::Plain(Plain::Bracket),
     Rule::Plain(Plain::Bracket),
     Rule::Plain(Plain::Negate),
@@ -112,6 +118,7 @@ static BY_NUMBER: [Rule; 53] = [
     Rule::Plain(Plain::Div),
     Rule::Plain(Plain::HostMath),
     Rule::Plain(Plain::HostMathVolatile),
+    // Return; Pi, LeftBrace, RightBrace, RightBracket, RightParenthesis, ConditionalElse, Comma
     Rule::Return,
     Rule::Plain(Plain::Generic),
     Rule::Plain(Plain::Generic),
