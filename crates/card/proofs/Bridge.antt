@@ -15,7 +15,7 @@ use Rattle.program.specs.Image.{bit, word_of, put_instruction, put_text, put_pos
 use Rattle.program.specs.Targets.{shift_of}
 use Rattle.program.specs.Fits.{Below, Every, FitInstruction, FitPost, root_index, FitStore, FitCall, FitProgram}
 use Rattle.card.specs.declared.Sections.{Sections}
-use Rattle.workspace.specs.Layout.{OPEN, FINISHED, CONSTS, POSTS, HASHES, NAMES, TEMPS, MEMBERS, STORES, PATHS, CALLS, ARGUMENTS}
+use Rattle.workspace.specs.Layout.{OPEN, FINISHED, POSTS, HASHES, NAMES, TEMPS, MEMBERS, STORES, PATHS, CALLS, ARGUMENTS}
 use Rattle.card.specs.Written.{cat, joined}
 use Rattle.workspace.specs.Words.{plus}
 use Rattle.card.specs.Image.{word_entry, half_entry, instruction_bytes, instruction_entry, const_entry, dotted_bytes, text_bytes, hash_bytes, name_bytes, name_entry, member_bytes, member_entry, store_bytes, store_at, store_entry, call_bytes, call_at, call_entry, code_section, consts_section, posts_section, hashes_section, names_section, temps_section, members_section, stores_section, calls_section, closing_bytes, sections_of, body_of, image_of}
