@@ -21,13 +21,13 @@ use Rattle.card.specs.Written.{cat, joined}
 use Rattle.workspace.specs.Words.{plus}
 use Rattle.card.specs.Image.{word_entry, half_entry, instruction_bytes, instruction_entry, const_entry, dotted_bytes, text_bytes, hash_bytes, name_bytes, name_entry, member_bytes, member_entry, store_bytes, store_at, store_entry, call_bytes, call_at, call_entry, code_section, consts_section, posts_section, hashes_section, names_section, temps_section, members_section, stores_section, calls_section, closing_bytes, sections_of, body_of, image_of}
 use Rattle.card.specs.Holds.{Each, InstructionIs, NameIs, MemberIs, root_kind, StoreIs, CallIs, Holds}
-use Rattle.card.proofs.Shown.{number, every_at, counted, words_are, posts_are, hash_is, hashes_are, text_is, dotted_is}
+use Rattle.card.proofs.Shown.{field, front, every_at, counted, words_are, posts_are, hash_is, hashes_are, text_is, dotted_is}
 
 -- numbers of k bytes, one behind the other
 numbers_are : (k : ℕ) (xs : List ℕ) (r : List ℕ) → entries (be k) xs r ≡ joined (map (λ n. be k n []) xs) r
 unfolding entries joined
 numbers_are k [] r = refl
-numbers_are k (x ∷ xs) r = number k x _ ∙ ap (λ l. be k x [] ++ l) (numbers_are k xs r)
+numbers_are k (x ∷ xs) r = field k refl (numbers_are k xs r)
 
 -- an instruction
 pub instruction_is : (ws : List ℕ) (base k : ℕ) (i : Instruction) → InstructionIs ws base k i → FitInstruction i → (r : List ℕ) → put_instruction i r ≡ instruction_bytes base (get_or ws k 0) (get_or ws (k + 1) 0) ++ r
@@ -40,16 +40,14 @@ instruction_is ws base k i q h r =
     let s : x.sub ≡ w / 65536 % 256 = omega (arith, q.first, h.opcode, h.sub, h.b) in
     let b : x.b ≡ w % 65536 = omega (arith, q.first, h.opcode, h.sub, h.b) in
     let e : x.a ≡ plus a (shift_of (w / 16777216) base) = sym q.second ∙ ap (λ n. plus a (shift_of n base)) o in
-    number 1 x.opcode _ ∙ ap₂ (λ n l. be 1 n [] ++ l) o (number 1 x.sub _ ∙ ap₂ (λ n l. be 1 n [] ++ l) s
-    (number 4 x.a _ ∙ ap₂ (λ n l. be 4 n [] ++ l) e (number 2 x.b r ∙ ap (λ n. be 2 n [] ++ r) b)))
-    ∙ simp append_assoc
+    field 1 o (field 1 s (field 4 e (field 2 b refl))) ∙ simp append_assoc
 
 -- names and members
 pub name_is : (tree ws : List ℕ) (k : ℕ) (n : Name) → NameIs tree ws k n → (r : List ℕ) → put_name n r ≡ name_bytes tree ws k ++ r
 unfolding put_name name_bytes
 name_is tree ws k n q r =
     let t = text_bytes tree (get_or ws (k + 2) 0) in
-    hash_is ws k n.hash q.hash _ ∙ ap (λ l. hash_bytes ws k ++ l) (text_is tree (get_or ws (k + 2) 0) n.text q.text r)
+    front _ (hash_is ws k n.hash q.hash _) (text_is tree (get_or ws (k + 2) 0) n.text q.text r)
     ∙ sym (append_assoc (hash_bytes ws k) t r)
 
 pub member_is : (tree ws : List ℕ) (k : ℕ) (m : MemberEntry) → MemberIs tree ws k m → (r : List ℕ) → put_member m r ≡ member_bytes tree ws k ++ r
@@ -57,9 +55,9 @@ unfolding put_member member_bytes
 member_is tree ws k m q r =
     let s = dotted_bytes tree (get_or ws (k + 4) 0) in
     let t = dotted_bytes tree (get_or ws (k + 5) 0) in
-    hash_is ws k m.hash q.hash _ ∙ ap (λ l. hash_bytes ws k ++ l)
-    (ap₂ (λ a b. put_text a (put_text b r)) q.text q.report ∙ dotted_is tree (get_or ws (k + 4) 0) q.own q.own_text _
-    ∙ ap (λ l. s ++ l) (dotted_is tree (get_or ws (k + 5) 0) q.last q.last_text r))
+    front _ (hash_is ws k m.hash q.hash _)
+    (ap₂ (λ a b. put_text a (put_text b r)) q.text q.report
+    ∙ front _ (dotted_is tree (get_or ws (k + 4) 0) q.own q.own_text _) (dotted_is tree (get_or ws (k + 5) 0) q.last q.last_text r))
     ∙ sym (append_assoc (hash_bytes ws k) s (t ++ r)) ∙ sym (append_assoc (hash_bytes ws k ++ s) t r)
 
 -- stores
@@ -86,9 +84,8 @@ unfolding put_store list store_bytes
 store_is ws k s q h r =
     let n = length s.path in
     let e : n ≡ get_or ws (k + 3) 0 % 65536 = low_half q.count h.path.short in
-    root_is s.root _ ∙ number 1 (root_kind s.root) _ ∙ ap₂ (λ v l. be 1 v [] ++ l) (low_byte q.kind (kind_fits s.root))
-    (number 2 (root_index s.root) _ ∙ ap₂ (λ v l. be 2 v [] ++ l) (low_half q.index h.root)
-    (number 2 n _ ∙ ap₂ (λ v l. be 2 v [] ++ l) e (hashes_are ws (PATHS + 2 * get_or ws (k + 2) 0) s.path e q.path h.path.each r)))
+    root_is s.root _ ∙ field 1 (low_byte q.kind (kind_fits s.root)) (field 2 (low_half q.index h.root)
+    (field 2 e (hashes_are ws (PATHS + 2 * get_or ws (k + 2) 0) s.path e q.path h.path.each r)))
     ∙ simp append_assoc
 
 -- calls
@@ -97,15 +94,14 @@ unfolding put_call list call_bytes
 call_is ws base k c q h r =
     let n = length c.starts in
     let e : n ≡ get_or ws (k + 2) 0 % 65536 = low_half q.count h.starts.short in
-    number 2 c.index _ ∙ ap₂ (λ v l. be 2 v [] ++ l) (low_half q.index h.index)
-    (number 1 c.impl _ ∙ ap₂ (λ v l. be 1 v [] ++ l) (low_byte q.impl h.impl)
-    (number 2 n _ ∙ ap₂ (λ v l. be 2 v [] ++ l) e (words_are ws (ARGUMENTS + get_or ws (k + 3) 0) base c.starts e q.starts h.starts.each r)))
+    field 2 (low_half q.index h.index) (field 1 (low_byte q.impl h.impl)
+    (field 2 e (words_are ws (ARGUMENTS + get_or ws (k + 3) 0) base c.starts e q.starts h.starts.each r)))
     ∙ simp append_assoc
 
 -- a section: the count and the entries
 section : {A : Type 0} (put : A → List ℕ → List ℕ) (xs : List A) {n : ℕ} (b r : List ℕ) → length xs ≡ n → entries put xs r ≡ b ++ r → list put 4 xs r ≡ (be 4 n [] ++ b) ++ r
 unfolding list
-section put xs {n} b r e q = number 4 (length xs) _ ∙ ap₂ (λ m l. be 4 m [] ++ l) e q ∙ sym (append_assoc (be 4 n []) b r)
+section put xs {n} b r e q = field 4 e q ∙ sym (append_assoc (be 4 n []) b r)
 
 entries_append : {A : Type 0} (put : A → List ℕ → List ℕ) (xs ys : List A) (r : List ℕ) → entries put (xs ++ ys) r ≡ entries put xs (entries put ys r)
 unfolding entries
@@ -139,7 +135,7 @@ module _ (tree ws : List ℕ) (c : Sections) (P : Program) (q : Holds tree ws c 
   unfolding consts_section
   consts_are r =
       section (be 4) P.consts _ r q.consts_count
-      (counted (be 4) 0 P.consts (const_entry ws) q.consts_count (λ k l s. number 4 (get_or P.consts k 0) s ∙ ap (λ v. be 4 v [] ++ s) (sym (q.consts k l))) r)
+      (counted (be 4) 0 P.consts (const_entry ws) q.consts_count (λ k l s. field 4 (sym (q.consts k l)) refl) r)
 
   all_posts : (r : List ℕ) → list put_post 4 P.posts r ≡ posts_section ws c.pools.posts ++ r
   unfolding posts_section put_post entries
@@ -148,9 +144,8 @@ module _ (tree ws : List ℕ) (c : Sections) (P : Program) (q : Holds tree ws c 
       let n : length P.posts ≡ c.pools.posts + 1 = ap length q.posts ∙ ap suc q.posts_count ∙ sym (add-one c.pools.posts) in
       let fit : Every FitPost (identity ∷ q.further) = rw q.posts at h.posts.each in
       section put_post P.posts (be 4 identity.scale [] ++ (be 4 identity.offset [] ++ w)) r n
-      (ap (λ l. entries put_post l r) q.posts ∙ number 4 identity.scale _ ∙ ap (λ l. be 4 identity.scale [] ++ l) (number 4 identity.offset _
-      ∙ ap (λ l. be 4 identity.offset [] ++ l) (posts_are ws POSTS q.further q.posts_count q.posts_are fit.1 r))
-      ∙ simp append_assoc)
+      (ap (λ l. entries put_post l r) q.posts
+      ∙ field 4 refl (field 4 refl (posts_are ws POSTS q.further q.posts_count q.posts_are fit.1 r)) ∙ simp append_assoc)
       ∙ simp append_assoc
 
   all_hashes : (r : List ℕ) → list (be 8) 4 P.hashes r ≡ hashes_section ws c.pools.hashes ++ r
@@ -168,7 +163,7 @@ module _ (tree ws : List ℕ) (c : Sections) (P : Program) (q : Holds tree ws c 
   temps_are r =
       section (be 2) P.temps _ r q.temps_count
       (counted (be 2) 0 P.temps (half_entry ws TEMPS) q.temps_count
-      (λ k l s. number 2 (get_or P.temps k 0) s ∙ ap (λ v. be 2 v [] ++ s) (low_half (q.temps k l) (every_at (Below 2) 0 P.temps h.temps.each k l))) r)
+      (λ k l s. field 2 (low_half (q.temps k l) (every_at (Below 2) 0 P.temps h.temps.each k l)) refl) r)
 
   members_are : (r : List ℕ) → list put_member 4 P.members r ≡ members_section tree ws c.pools.members ++ r
   unfolding members_section
@@ -194,16 +189,13 @@ module _ (tree ws : List ℕ) (c : Sections) (P : Program) (q : Holds tree ws c 
   unfolding put_closing put_depths closing_bytes
   closing_is =
       numbers_are 2 (numbers P.depths) _ ∙ ap₂ (λ d r. joined (map (λ n. be 2 n []) (numbers d)) r) (sym q.depths)
-      (number 2 P.flags _ ∙ ap₂ (λ v b. be 2 v [] ++ be 1 (bit b) []) (sym q.flags) (sym q.float_loop))
+      (field 2 (sym q.flags) (ap (λ b. be 1 (bit b) []) (sym q.float_loop)))
 
   body_is : put_program P [] ≡ body_of tree ws c
   unfolding put_program body_of sections_of joined
   body_is =
-      code_is _ ∙ ap (λ l. code_section ws c.code c.finished ++ l) (consts_are _ ∙ ap (λ l. consts_section ws c.pools.consts ++ l)
-      (all_posts _ ∙ ap (λ l. posts_section ws c.pools.posts ++ l) (all_hashes _ ∙ ap (λ l. hashes_section ws c.pools.hashes ++ l)
-      (names_are _ ∙ ap (λ l. names_section tree ws c.pools.names ++ l) (temps_are _ ∙ ap (λ l. temps_section ws c.pools.temps ++ l)
-      (members_are _ ∙ ap (λ l. members_section tree ws c.pools.members ++ l) (stores_are _ ∙ ap (λ l. stores_section ws c.listed.stores ++ l)
-      (calls_are _ ∙ ap (λ l. calls_section ws c.code c.listed.calls ++ l) closing_is))))))))
+      front _ (code_is _) (front _ (consts_are _) (front _ (all_posts _) (front _ (all_hashes _) (front _ (names_are _)
+      (front _ (temps_are _) (front _ (members_are _) (front _ (stores_are _) (front _ (calls_are _) closing_is))))))))
 
   -- the image of the workspace is the image of the program
   pub image_is : length (put_program P []) < 256 ^ 4 → image_of tree ws c ≡ image P
@@ -212,4 +204,4 @@ module _ (tree ws : List ℕ) (c : Sections) (P : Program) (q : Holds tree ws c 
       let b = put_program P [] in
       let m : length b % 4294967296 ≡ length b = omega arith in
       ap (λ d. be 1 1 [] ++ be 4 (length d % 4294967296) [] ++ d) (sym body_is) ∙ ap (λ n. be 1 1 [] ++ be 4 n [] ++ b) m
-      ∙ append_assoc (be 1 1 []) (be 4 (length b) []) b ∙ ap (λ d. be 1 1 [] ++ d) (sym (number 4 (length b) b)) ∙ sym (number 1 1 (be 4 (length b) b))
+      ∙ append_assoc (be 1 1 []) (be 4 (length b) []) b ∙ sym (field 1 refl (field 4 refl refl))

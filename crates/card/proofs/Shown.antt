@@ -21,6 +21,14 @@ use Rattle.card.specs.Holds.{Each, WordsAre, PostIs, HashIs, HashesAre, TextIs}
 pub number : (k v : ℕ) (r : List ℕ) → be k v r ≡ be k v [] ++ r
 number k v r = be_append k v [] r
 
+-- the same where each is written otherwise
+pub field : (k : ℕ) {v w : ℕ} {r s : List ℕ} → v ≡ w → r ≡ s → be k v r ≡ be k w [] ++ s
+field k {v} {w} {r} e f = number k v r ∙ ap₂ (λ n l. be k n [] ++ l) e f
+
+-- bytes in front of what follows, which is written otherwise
+pub front : (a : List ℕ) {r s t : List ℕ} → t ≡ a ++ r → r ≡ s → t ≡ a ++ s
+front a e f = e ∙ ap (λ l. a ++ l) f
+
 -- what every entry has, one has
 pub every_at : {A : Type 0} (Q : A → Type 0) (d : A) (xs : List A) → Every Q xs → (k : ℕ) → k < length xs → Q (get_or xs k d)
 every_at {A = A} Q d [] h k l = elim l [ ]
@@ -53,7 +61,7 @@ sum_fits x b e h = omega arith
 pub words_are : (ws : List ℕ) (from base : ℕ) (xs : List ℕ) {n : ℕ} → length xs ≡ n → WordsAre ws from base xs → Every (Below 4) xs → (r : List ℕ) → entries (be 4) xs r ≡ cat (word_entry ws from base) n ++ r
 words_are ws from base xs e q h =
     counted (be 4) 0 xs (word_entry ws from base) e
-    (λ k l r. number 4 (get_or xs k 0) r ∙ ap (λ v. be 4 v [] ++ r) (sum_fits (get_or ws (from + k) 0) base (q k l) (every_at (Below 4) 0 xs h k l)))
+    (λ k l r. field 4 (sum_fits (get_or ws (from + k) 0) base (q k l) (every_at (Below 4) 0 xs h k l)) refl)
 
 -- pairs of words
 cat_pairs : (f : ℕ → List ℕ) (n : ℕ) → cat f (2 * n) ≡ cat (λ k. f (2 * k) ++ f (2 * k + 1)) n
@@ -88,7 +96,7 @@ posts_are ws from xs e q h =
     (λ k l. let p = get_or xs k identity in let f = every_at FitPost identity xs h k l in let s = q k l in (
       rw s.scale f.scale,
       rw s.offset f.offset,
-      λ r. number 4 p.scale _ ∙ ap (λ l. be 4 p.scale [] ++ l) (number 4 p.offset r) ∙ sym (append_assoc (be 4 p.scale []) (be 4 p.offset []) r) ∙ ap₂ (λ x y. be 4 x [] ++ be 4 y [] ++ r) (sym s.scale) (sym s.offset),
+      λ r. field 4 (sym s.scale) (field 4 (sym s.offset) refl) ∙ sym (append_assoc (be 4 _ []) (be 4 _ []) r),
     ))
 
 -- hashes
@@ -105,7 +113,7 @@ hashes_are ws from xs e q h =
 letters_are : (tree : List ℕ) (o : ℕ) (t : List ℕ) → TextIs tree o t → (r : List ℕ) → entries (be 1) t r ≡ cat (byte_entry tree (o + 1)) (be8 tree o 0) ++ r
 letters_are tree o t q =
     counted (be 1) 0 t (byte_entry tree (o + 1)) (sym q.count ∙ ap (λ i. get_or tree i 0) (sym (add-zero o)))
-    (λ k l r. number 1 (get_or t k 0) r ∙ ap (λ b. be 1 b [] ++ r) (sym (q.letters k l)))
+    (λ k l r. field 1 (sym (q.letters k l)) refl)
 
 size_is : (tree : List ℕ) (o : ℕ) (t : List ℕ) → TextIs tree o t → length t ≡ be8 tree o 0
 size_is tree o t q = sym q.count ∙ ap (λ i. get_or tree i 0) (sym (add-zero o))
@@ -113,7 +121,7 @@ size_is tree o t q = sym q.count ∙ ap (λ i. get_or tree i 0) (sym (add-zero o
 pub text_is : (tree : List ℕ) (o : ℕ) (t : List ℕ) → TextIs tree o t → (r : List ℕ) → put_text t r ≡ text_bytes tree o ++ r
 unfolding put_text list text_bytes
 text_is tree o t q r =
-    number 2 (length t) _ ∙ ap₂ (λ n l. be 2 n [] ++ l) (size_is tree o t q) (letters_are tree o t q r)
+    field 2 (size_is tree o t q) (letters_are tree o t q r)
     ∙ sym (append_assoc (be 2 (be8 tree o 0) []) (cat (byte_entry tree (o + 1)) (be8 tree o 0)) r)
 
 pub dotted_is : (tree : List ℕ) (o : ℕ) (t : List ℕ) → TextIs tree o t → (r : List ℕ) → put_text (46 ∷ t) r ≡ dotted_bytes tree o ++ r
@@ -122,5 +130,5 @@ dotted_is tree o t q r =
     let n = be8 tree o 0 in
     let e : suc (length t) ≡ n + 1 = ap suc (size_is tree o t q) ∙ sym (add-one n) in
     let m = cat (byte_entry tree (o + 1)) n in
-    number 2 (suc (length t)) _ ∙ ap₂ (λ k l. be 2 k [] ++ l) e (number 1 46 _ ∙ ap (λ l. be 1 46 [] ++ l) (letters_are tree o t q r))
+    field 2 e (field 1 refl (letters_are tree o t q r))
     ∙ sym (append_assoc (be 2 (n + 1) []) (be 1 46 []) (m ++ r)) ∙ sym (append_assoc (be 2 (n + 1) [] ++ be 1 46 []) m r)

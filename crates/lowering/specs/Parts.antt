@@ -12,7 +12,7 @@ use Rattle.lowering.specs.Regions.{appended_count, appended_words}
 use Rattle.payload.specs.declared.NameRef.{NameRef}
 use Rattle.lowering.specs.Held.{State, Held}
 use Rattle.lowering.specs.declared.interning.VariableIdx.{VariableIdx}
-use Rattle.lowering.specs.Kinds.{one_of, index_of}
+use Rattle.lowering.specs.declared.interning.VariableIdx.TheVariants.{Name, Temp}
 use Rattle.builder.specs.Steps.{emitted, flushed, put, failed}
 use Rattle.lowering.specs.Pools as B
 use Rattle.lowering.specs.Pools.{Found, after}
@@ -45,9 +45,10 @@ front op sub b = op * 16777216 + sub % 256 * 65536 + b % 65536
 unfoldable pub instr : ℕ → ℕ → ℕ → ℕ → Step
 instr op sub a b = put (front op sub b) a
 
--- an instruction of a variable or of a temp, by its index
+-- the one instruction with a variable's index, the other with a temp's
 unfoldable pub put_variable : ℕ → ℕ → VariableIdx → ℕ → Step
-put_variable variable temp i q = instr (one_of variable temp i) 0 (index_of i) q
+put_variable variable temp (Name n) q = instr variable 0 n.0 q
+put_variable variable temp (Temp n) q = instr temp 0 n.0 q
 
 -- an entry is interned, and f goes on with its index
 abbrev pub going : Found → (ℕ → Step) → Held
@@ -132,7 +133,8 @@ each_closed begin next h =
 
 -- 01, The program image: "in EachNextVar and EachNextTemp, A is the exit and B the variable"
 unfoldable pub each_next : VariableIdx → Held → Found
-each_next i = emit_jump (one_of O.EACH_NEXT_VAR O.EACH_NEXT_TEMP i) 0 (index_of i)
+each_next (Name n) = emit_jump O.EACH_NEXT_VAR 0 n.0
+each_next (Temp n) = emit_jump O.EACH_NEXT_TEMP 0 n.0
 
 -- the step with the index of a variable or a temp, or the other where there is none
 abbrev pub where_found : Option VariableIdx → Step → (VariableIdx → Step) → Step

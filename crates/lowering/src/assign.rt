@@ -96,7 +96,8 @@ fn root_index(root: Option<VariableIdx>) -> u16
     ensures { result ≡ root_index root }
 {
     match root {
-        Some(index) => index.index(),
+        Some(VariableIdx::Name(n)) => n.0,
+        Some(VariableIdx::Temp(n)) => n.0,
         None => 0,
     }
 }

@@ -56,6 +56,8 @@ pub(crate) fn close_each(b: &mut Builder<'_>, begin: u16, next: u16)
 pub(crate) fn each_next(b: &mut Builder<'_>, index: VariableIdx) -> u16
     ensures { Gave b.old b.new result (each_next index) }
 {
-    let op = index.opcode(Opcode::EachNextVar, Opcode::EachNextTemp);
-    emit_jump(b, op, 0, index.index())
+    match index {
+        VariableIdx::Name(n) => emit_jump(b, Opcode::EachNextVar, 0, n.0),
+        VariableIdx::Temp(n) => emit_jump(b, Opcode::EachNextTemp, 0, n.0),
+    }
 }

@@ -30,7 +30,8 @@ pub(crate) fn instr(b: &mut Builder<'_>, op: Opcode, sub: u8, a: u32, post: Post
     b.put(front(op, sub, post.0), a);
 }
 
-// An instruction of a variable or of a temp, by its index.
+// The one instruction with a variable's index, the other with a temp's. The hint as that of `interning::variable`.
+#[inline(always)]
 #[tactic(auto, unfolding(crate::specs::Parts::put_variable))]
 pub(crate) fn put_variable(
     b: &mut Builder<'_>,
@@ -41,7 +42,10 @@ pub(crate) fn put_variable(
 )
     ensures { Did b.old b.new (put_variable (number_of variable) (number_of temp) i q.0) }
 {
-    instr(b, i.opcode(variable, temp), 0, u32::from(i.index()), q);
+    match i {
+        VariableIdx::Name(n) => instr(b, variable, 0, u32::from(n.0), q),
+        VariableIdx::Temp(n) => instr(b, temp, 0, u32::from(n.0), q),
+    }
 }
 
 // The patterns of the node's post. No `From`: both types are of other crates.

@@ -4,7 +4,6 @@ use Rattle.std.specs.Prelude.{Option, None, Some}
 use Rattle.std.specs.Option.{option_map}
 use Rattle.answers.specs.declared.refusals.Refusal.TheVariants as Refusal
 use native.Mathlib.Decide.{ℕ_discrete}
-use lib.Bits.{bit_and, bit_or}
 use lib.Seq.{sets}
 use Rattle.ast.specs.Tree as T
 use Rattle.ast.specs.Header.{LEVELS}
@@ -42,16 +41,16 @@ use Rattle.lowering.specs.Parts.{Step, either, instr, put_variable, going, set_l
 use Rattle.builder.specs.Steps.{still}
 use Rattle.lowering.specs.Rules as R
 use Rattle.representation.proofs.Rows.{Apart, Agree, rows_snoc, sets_apart, sets_stored}
-use Rattle.representation.proofs.Represents.{StoreAt, Abs, Fits, Table, Content, Moves, Does, Enters, on_state, run}
+use Rattle.representation.proofs.Represents.{StoreAt, Abs, Fits, Table, Content, Does, Enters, on_state, run}
 use Rattle.representation.proofs.Keeps.{hash_local, rows_moved, store_keep, stores_changed}
 use Rattle.representation.proofs.Pools.{apart_wider}
 use Rattle.representation.proofs.Interning.{with_does, name_does, temp_does, post_does}
-use Rattle.representation.proofs.Laws.{flags_move, flagged_does}
+use Rattle.representation.proofs.Laws.{flagged_does}
 use Rattle.representation.proofs.OpenCode.{failing_does}
 use Rattle.representation.proofs.Branches.{instr_does}
 use Rattle.representation.proofs.Sound.{NodeSound, Sound, node_sound, first_sound}
 use Rattle.representation.proofs.TargetRules.{member_same}
-use Rattle.representation.proofs.Kin.{variable_lem, found_lem}
+use Rattle.representation.proofs.Kin.{variable_lem, found_lem, sets_not_move}
 
 -- ---- paths
 
@@ -302,11 +301,6 @@ module _ {tree : List ℕ} {c : Counts} where
   pub store_with : (v : MemberStore) {f : ℕ → Lowering} {F : ℕ → Step} → ((i : ℕ) → Does tree (f i) c (F i)) → Does tree (with_store v f) c (λ h. going (store_added (root_kind v.root) (root_index v.root) h.0.listed.paths (length v.path) (all_added v.path h)) F)
   store_with v d = with_does (store_enters v tree) d
 
--- a member store's flags
-pub members_move : {tree : List ℕ} {c : Counts} → Moves tree (on_state (λ s. S.set_flags (S.sets USES_MEMBERS (S.not_float_only s.flags)) s)) c c (still (λ s. L.flagged 16 (L.not_float_only s)))
-unfolding S.sets S.not_float_only L.flagged L.not_float_only
-members_move = flags_move (λ f. S.sets USES_MEMBERS (S.not_float_only f)) (λ s. L.flagged 16 (L.not_float_only s)) (λ s f a b. (ap (λ (x : ℕ). bit_or (bit_and x 2046) 16) a, refl)) (λ s. refl)
-
 module _ (tree : List ℕ) (c : Counts) (n p : ℕ) (m : P.Path) (e : PathEnd) (q : ℕ) (small : length tree ≤ 6144) (same : EndsAt tree n m e (R.path_hashes tree n p)) where
   abbrev rooted : StoreRoot → Lowering
   rooted r = with_store (record { root = r; path = m.hashes }) λ k. put (I.plain (I.store_member k q))
@@ -330,7 +324,7 @@ module _ (tree : List ℕ) (c : Counts) (n p : ℕ) (m : P.Path) (e : PathEnd) (
 
   member_store_lem : Does tree (D.member_store m q) c (λ h. R.store_under tree e.root n p e.count q (still (λ s. L.flagged 16 (L.not_float_only s)) h))
   unfolding D.member_store
-  member_store_lem = flagged_does (λ f. S.sets USES_MEMBERS (S.not_float_only f)) (λ s. L.flagged 16 (L.not_float_only s)) members_move root_lem
+  member_store_lem = flagged_does (λ f. S.sets USES_MEMBERS (S.not_float_only f)) (λ s. L.flagged 16 (L.not_float_only s)) (sets_not_move 16) root_lem
 
 module _ (tree : List ℕ) (c : Counts) (n p : ℕ) (few : n ≤ LEVELS) (sound : Sound n tree p) (small : length tree ≤ 6144) where
   abbrev path : P.Path
