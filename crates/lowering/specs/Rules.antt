@@ -19,14 +19,14 @@ use Rattle.code.specs.Segments.{BREAK, CONTINUE}
 use Rattle.lowering.specs.Payloads.{const_of, float_of}
 use Rattle.lowering.specs.Steps.{operand_entered, popped, loop_entered, loop_left, handler_entered, handler_left, flagged, not_float_only, queried}
 use Rattle.lowering.specs.Parts.{Step, ◌>>◌, ◌>>=◌, either, unless_refused, instr}
-use Rattle.lowering.specs.Parts.{post_bits, with_post, put_post, post_instr, emit_jump, with_jump, place_target, resolve_breaks, jump_out, loop_closed, each_closed}
-use Rattle.lowering.specs.Parts.{with_call, argument_closed}
+use Rattle.lowering.specs.Parts.{post_bits, with_post, put_post, post_instr, emit_jump, with_jump, place_target, resolve_breaks, loop_closed, each_closed}
+use Rattle.lowering.specs.Parts.{with_call, argument_closed, jump_out}
 use Rattle.lowering.specs.Parts.{each_next, where_found}
 unfoldable pub use Rattle.lowering.specs.Leaves.{no_variable, variable_of, name_kind, temp_kind, hashed, with_path, payload, rule, if_name, if_hash}
 unfoldable pub use Rattle.lowering.specs.Leaves.{if_math, if_query, load_context, load_temp, load_var, load, string_literal, resource, generic}
-unfoldable pub use Rattle.lowering.specs.Leaves.{member_put, array_put, longer, is_member, is_return, is_link, path_end, path_hashes, store_as, root_temp, root_var}
-unfoldable pub use Rattle.lowering.specs.Leaves.{store_member, store_temp, store_var, store, refused_target, target_refusal, compare_const, equal_const, constant_form}
-unfoldable pub use Rattle.lowering.specs.Leaves.{variable_temp, variable}
+unfoldable pub use Rattle.lowering.specs.Leaves.{member_put, array_put, longer, is_link, path_end, path_hashes, store_as, root_temp, root_var}
+unfoldable pub use Rattle.lowering.specs.Leaves.{store_member, store_temp, store_var, store, target_refusal, compare_const, equal_const, constant_form}
+unfoldable pub use Rattle.lowering.specs.Leaves.{is_member, is_return, refused_target, variable_temp, variable}
 
 -- ---- rules with operands: E lowers the node at a place with one level fewer, C does as the base of a member path, R a Return of a statement list
 
@@ -320,18 +320,18 @@ module _ (t : List ℕ) where
   unfoldable mutual
     pub expr : ℕ → ℕ → Bool → Step
     expr zero p l h = failed Refusal.Failed h
-    expr (suc n) p l h = branch t (λ q l g. expr n q l g) (λ q x l g. chain n q x l g) (λ q l g. returned n q l g) n p l (rule t p) h
+    expr (suc n) p l h = branch t (expr n) (chain n) (returned n) n p l (rule t p) h
 
     pub chain : ℕ → ℕ → NameRef → Bool → Step
     chain zero p last l h = failed Refusal.Failed h
     chain (suc n) p last l h =
         cond (is_link t p)
-        (chained t (λ q l g. expr n q l g) (λ q x l g. chain n q x l g) (λ q l g. returned n q l g) p last l h)
-        (branch t (λ q l g. expr n q l g) (λ q x l g. chain n q x l g) (λ q l g. returned n q l g) n p l (rule t p) h)
+        (chained t (expr n) (chain n) (returned n) p last l h)
+        (branch t (expr n) (chain n) (returned n) n p l (rule t p) h)
 
     pub returned : ℕ → ℕ → Bool → Step
     returned zero p l h = failed Refusal.Failed h
-    returned (suc n) p l h = ret t (λ q l g. expr n q l g) (λ q x l g. chain n q x l g) (λ q l g. returned n q l g) p l h
+    returned (suc n) p l h = ret t (expr n) (chain n) (returned n) p l h
 
 -- a rule over the lowerings of children of so many levels
 module _ (t : List ℕ) where
