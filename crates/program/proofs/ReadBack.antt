@@ -10,7 +10,7 @@ use Rattle.wire.specs.Reader.{Got, got, u, list, lists}
 use Rattle.wire.proofs.ReadBack.{Back, All, u_back, and_back, list_back}
 use Rattle.numeric.specs.Post.{Post}
 use Rattle.ast.specs.Tree.{Name}
-use Rattle.program.specs.Instruction.{const, hash, resource, this, negate, not, and_last, or_last, post, pointer_leave, store_var, store_temp, store_member, cmp_const, eq_const, eq_hash, add_acc, add_last, mul, div, cmp, eq, host_math, load_var, load_temp, load_ctx, array_element, member, div_guard, and_step, or_step, pointer_enter, jump_if_falsy, each_next_var, each_next_temp, Instruction, plain, taking, reading, guard, push, loop_end, halt, end, push_const, jump, handler_push, handler_pop, loop_begin, loop_check, each_begin, return, each_next, call}
+use Rattle.program.specs.Instruction.{const, add_last, load_var, div_guard, each_next_var, Instruction, plain, taking, reading, guard, each_next}
 use Rattle.program.specs.Program.{Counts, MemberEntry, StoreRoot, root_var, root_temp, root_other, MemberStore, QueryCall, Program}
 use Rattle.program.specs.Image.{bit, is_set, word_of, shapes, instruction_of, put_instruction, get_instruction, put_text, get_text, put_post, get_post, put_name, get_name, put_member, get_member, put_root, root_of, get_root, put_store, get_store, put_call, get_call, put_depths, get_depths, put_closing, put_program, get_program, image, read}
 use Rattle.program.specs.Fits.{Below, Every, Listed, FitInstruction, FitPost, FitName, FitMember, root_index, FitStore, FitCall, FitCounts, FitProgram}
@@ -18,54 +18,12 @@ use Rattle.program.specs.Fits.{Below, Every, Listed, FitInstruction, FitPost, Fi
 instruction_word : (i : Instruction) → instruction_of (word_of i) ≡ i
 unfolding word_of instruction_of shapes bit is_set
 instruction_word (plain (const c)) = refl
-instruction_word (plain (hash h)) = refl
-instruction_word (plain (resource h)) = refl
-instruction_word (plain (this p)) = refl
-instruction_word (reading (load_var n p)) = refl
-instruction_word (reading (load_temp n p)) = refl
-instruction_word (reading (load_ctx n p)) = refl
-instruction_word (reading (array_element n p)) = refl
-instruction_word (reading (member n p)) = refl
-instruction_word (plain (store_var n p)) = refl
-instruction_word (plain (store_temp n p)) = refl
-instruction_word (plain (store_member n p)) = refl
-instruction_word push = refl
-instruction_word (push_const c) = refl
-instruction_word (plain (negate p)) = refl
-instruction_word (plain (not p)) = refl
-instruction_word (plain add_acc) = refl
 instruction_word (taking (add_last p)) = refl
-instruction_word (taking (mul p)) = refl
+instruction_word (reading (load_var n p)) = refl
 instruction_word (guard (div_guard true) t) = refl
 instruction_word (guard (div_guard false) t) = refl
-instruction_word (taking (div p)) = refl
-instruction_word (taking (host_math f n p)) = refl
-instruction_word (taking (cmp o p)) = refl
-instruction_word (plain (cmp_const o c p)) = refl
-instruction_word (taking (eq o p)) = refl
-instruction_word (plain (eq_const o c p)) = refl
-instruction_word (plain (eq_hash o c p)) = refl
-instruction_word (guard (and_step p) t) = refl
-instruction_word (guard (or_step p) t) = refl
-instruction_word (plain (and_last p)) = refl
-instruction_word (plain (or_last p)) = refl
-instruction_word (jump t) = refl
-instruction_word (guard jump_if_falsy t) = refl
-instruction_word (plain (post p)) = refl
-instruction_word (handler_push t) = refl
-instruction_word (handler_pop t) = refl
-instruction_word (guard (pointer_enter p) t) = refl
-instruction_word (plain (pointer_leave p)) = refl
-instruction_word (call q p) = refl
-instruction_word (loop_begin t) = refl
-instruction_word (loop_check t) = refl
-instruction_word loop_end = refl
-instruction_word (each_begin t) = refl
 instruction_word (each_next (each_next_var n) t) = refl
-instruction_word (each_next (each_next_temp n) t) = refl
-instruction_word (return p) = refl
-instruction_word halt = refl
-instruction_word end = refl
+instruction_word i = refl
 
 instruction_back : (i : Instruction) → FitInstruction i → Back put_instruction get_instruction i
 unfolding put_instruction get_instruction

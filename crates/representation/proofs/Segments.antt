@@ -49,9 +49,9 @@ pasts_length (c ∷ cs) n =
 
 pub relocate_front : (b : ℕ) (i : Instruction) → instruction_front (relocate b i) ≡ instruction_front i
 unfolding relocate word_of
-relocate_front b (I.plain (I.const c)) = refl
-relocate_front b (I.taking (I.add_last c)) = refl
-relocate_front b (I.reading (I.load_var c d)) = refl
+relocate_front b (I.plain i) = refl
+relocate_front b (I.taking i) = refl
+relocate_front b (I.reading i) = refl
 relocate_front b (I.guard (I.div_guard c) t) = refl
 relocate_front b (I.each_next (I.each_next_var c) t) = refl
 relocate_front b i = refl

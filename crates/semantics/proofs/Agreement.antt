@@ -7,14 +7,14 @@ use lib.Dec.{leb}
 use Rattle.ast.specs.Tree.{Name, Payload, Tree, node, Forest, nil, cons}
 use Rattle.numeric.specs.Post.{Post, is_identity, fold}
 use Rattle.program.specs.Instruction as Instr
-use Rattle.program.specs.Instruction.{Plain, hash, resource, this, negate, not, and_last, or_last, pointer_leave, store_var, store_temp, store_member, cmp_const, eq_const, eq_hash, add_acc, add_last, mul, div, cmp, eq, host_math, load_var, load_temp, load_ctx, member, Guard, div_guard, and_step, or_step, pointer_enter, EachNext, each_next_var, each_next_temp, plain}
-use Rattle.program.specs.Program.{name_at, StoreRoot, root_var, root_temp, root_other, Program, post_at, slot_at, member_at}
+use Rattle.program.specs.Instruction.{Taking, Plain, hash, resource, this, negate, not, and_last, or_last, pointer_leave, store_var, store_temp, store_member, cmp_const, eq_const, eq_hash, add_acc, add_last, mul, div, cmp, eq, host_math, load_var, load_temp, load_ctx, member, Guard, div_guard, and_step, or_step, pointer_enter, EachNext, each_next_var, each_next_temp, plain, taking}
+use Rattle.program.specs.Program.{name_at, StoreRoot, root_var, root_temp, root_other, Program, const_at, post_at, slot_at, member_at}
 use Rattle.semantics.proofs.BoundedControl.{Whole}
 use Rattle.semantics.proofs.BoundedRules.{tree_bound}
 use Rattle.semantics.proofs.Relations.{Zip, znil, zcons, zip_length, either_rel, name_rel, kind_rel, name_one, hash_rel, math_rel, query_rel}
 use Rattle.semantics.proofs.SimulatedCalls.{Tree-s}
 use Rattle.semantics.proofs.Simulation.{Sim}
-use Rattle.semantics.specs.Lowering.{Lowerings, member_read, with_root, member_store, is_member, target_refusal, unless, equal_const, array_element, lower_plain, lower_rule, lower, lowers}
+use Rattle.semantics.specs.Lowering.{Lowerings, member_read, with_root, member_store, is_member, target_refusal, unless, const_operand, equal_const, array_element, lower_plain, lower_rule, lower, lowers}
 use Rattle.semantics.specs.Machine.{root_at, plain_action, taking_action, taken, reading_action, guard_action, guard_up, each_action}
 use Rattle.semantics.specs.Payloads.{as_hash, float_of, const_of, one, Path, path}
 use Rattle.semantics.specs.Pieces.{Lowering, put, failing, ◌⨾◌, with_name, with_temp, with_post, constant, post_instruction}
@@ -130,6 +130,36 @@ module _ (S : Settings) (P : Program) (E : ℕ) (r : Result) where
   unary_s true p = with_p p _ (λ q. logs (Action.e_negate q)) (λ k. pl (Plain.negate k))
   unary_s false p = with_p p _ (λ q. logs (Action.e_not q)) (λ k. pl (Plain.not k))
 
+  -- a child and the form with a constant, or two children
+  paired_s : {e : Scope} (f : ℕ → Lowering) (i : ℕ → Taking) (x y : Post → Action) → ((k : ℕ) → S' e (f k) (logs (x (post_at P k))))
+      → ((k : ℕ) → S' e (put (taking (i k))) (takes 1 (y (post_at P k)))) → (p : Post) {ls : List Lowerings} {ms : List Walkings} → Zip T' ls ms
+      → S' e (L.paired f i p ls e.loop) (K.paired (x (shown p)) (y (shown p)) ms e)
+  unfolding L.paired K.paired K.bounds
+  paired_s f i x y hx hy p znil = no_s
+  paired_s {e} f i x y hx hy p (zcons {b = m} a znil) = with_p p _ (λ q. m.expr e then logs (x q)) λ k. a.expr e ⨟ hx k
+  paired_s {e} f i x y hx hy p (zcons {b = m} a (zcons {b = n} b z)) =
+      with_p p _ (λ q. m.expr e then pushes then n.expr e then takes 1 (y q)) λ k. Z.pushed_s P E r (a.expr e) (b.expr e ⨟ hy k)
+
+  const_operand_s : {e : Scope} (i : ℕ → ℕ → Plain) (x : ℕ → Action) (v : Payload) (q : ℕ) → ((k : ℕ) → S' e (put (plain (i k q))) (logs (x (const_at P k))))
+      → S' e (const_operand i v q) (logs (x (const_of v)))
+  unfolding const_operand
+  const_operand_s i x v q h = Z.with_const_s P E r _ _ (λ t. logs (x t)) h
+
+  abbrev equal_shown : ℕ → Payload → Post → Action
+  equal_shown o v q = as_hash v (e_eq_const o (float_of v) q) (λ x. e_eq_hash o x q)
+
+  equal_const_s : {e : Scope} (o : ℕ) (v : Payload) (q : ℕ) → S' e (equal_const o v q) (logs (equal_shown o v (post_at P q)))
+  unfolding equal_const plain_action
+  equal_const_s {e} o v q = hash_rel (λ f x. S' e f (logs x)) v
+      (Z.with_const_s P E r _ _ (λ t. logs (e_eq_const o t (post_at P q))) (λ k. pl (eq_const o k q)))
+      (λ x. Z.flagged_s P E r _ (Z.with_hash_s P E r x _ (λ t. logs (e_eq_hash o t (post_at P q))) (λ k. pl (eq_hash o k q))))
+
+  -- two children, and what takes n operands
+  bounds_s : {e : Scope} (i : ℕ → Taking) (n : ℕ) (x : Post → Action) → ((k : ℕ) → S' e (put (taking (i k))) (takes n (x (post_at P k))))
+      → (p : Post) {a b : Lowerings} {m w : Walkings} → T' a m → T' b w → S' e (L.bounds i p a b e.loop) (K.bounds n (x (shown p)) m w e)
+  unfolding L.bounds K.bounds
+  bounds_s {e} i n x h p a b = Z.pushed_s P E r (a.expr e) (b.expr e ⨟ with_p p _ (λ q. takes n (x q)) h)
+
   array_s : (x : Bool) (p : Post) (v : Payload) (ts : Forest) {ls : List Lowerings} {ms : List Walkings} → Zip T' ls ms → (e : Scope) → S' e (cond x (array_element p v ls e.loop) (failing 5)) (walk_plain S R.array p v ts ms e)
   unfolding array_element walk_plain reading_action
   array_s true p v ts (zcons a znil) e = name_rel (S' e) 7 v no_s (λ n. Z.flagged_s P E r _ (a.expr e ⨟ with_n n _ (λ t. loads e (e_array_element t (shown p))) (λ k. with_p p _ (λ q. loads e (e_array_element (name_at P k) q)) (λ q. Y.may_s P E r (Instr.array_element k q)))))
@@ -137,7 +167,7 @@ module _ (S : Settings) (P : Program) (E : ℕ) (r : Result) where
   array_s false p v ts h e = Z.failing_s P E r 4
 
   plain_s : (x : R.Plain) (p : Post) (v : Payload) (ts : Forest) {ls : List Lowerings} {ms : List Walkings} → Zip T' ls ms → (e : Scope) → S' e (lower_plain S x p v ts ls e.loop) (walk_plain S x p v ts ms e)
-  unfolding lower_plain walk_plain equal_const plain_action taking_action taken guard_action guard_up
+  unfolding lower_plain walk_plain plain_action taking_action taken guard_action guard_up
   plain_s R.array p v ts h e = array_s S.from_host p v ts h e
   plain_s R.uses_arrays p v ts h e = Z.failing_s P E r 4
   plain_s R.uses_resources p v ts h e = Z.failing_s P E r 5
@@ -147,12 +177,9 @@ module _ (S : Settings) (P : Program) (E : ℕ) (r : Result) where
   plain_s R.this p v ts h e = with_p p _ (λ q. logs (e_this q)) (λ k. pl (this k))
   plain_s R.load p v ts h e = loaded_s v p e
   plain_s R.query p v ts h e = query_rel (S' e) v no_s (λ i m. Z.flagged_s P E r _ (X.query_s P E r i m p h))
-  plain_s (R.compare o) p v ts (zcons {b = m} a znil) e = with_p p _ (λ q. m.expr e then logs (e_cmp_const o (const_of v) q)) λ q. a.expr e ⨟ Z.with_const_s P E r _ _ (λ t. logs (e_cmp_const o t (post_at P q))) (λ k. pl (cmp_const o k q))
-  plain_s (R.compare o) p v ts (zcons {b = m} a (zcons {b = n} b z)) e = with_p p _ (λ q. m.expr e then pushes then n.expr e then takes 1 (e_cmp o q)) λ q. Z.pushed_s P E r (a.expr e) (b.expr e ⨟ Z.taking_s P E r (cmp o q))
-  plain_s (R.equal o) p v ts (zcons {b = m} a znil) e = with_p p _ (λ q. m.expr e then as_hash v (logs (e_eq_const o (float_of v) q)) (λ x. logs (e_eq_hash o x q))) λ q. a.expr e ⨟ hash_rel (S' e) v
-      (Z.with_const_s P E r _ _ (λ t. logs (e_eq_const o t (post_at P q))) (λ k. pl (eq_const o k q)))
-      (λ x. Z.flagged_s P E r _ (Z.with_hash_s P E r x _ (λ t. logs (e_eq_hash o t (post_at P q))) (λ k. pl (eq_hash o k q))))
-  plain_s (R.equal o) p v ts (zcons {b = m} a (zcons {b = n} b z)) e = with_p p _ (λ q. m.expr e then pushes then n.expr e then takes 1 (e_eq o q)) λ q. Z.pushed_s P E r (a.expr e) (b.expr e ⨟ Z.taking_s P E r (eq o q))
+  plain_s (R.compare o) p v ts h e = paired_s _ (cmp o) (e_cmp_const o (const_of v)) (e_cmp o)
+      (λ q. const_operand_s (cmp_const o) (λ t. e_cmp_const o t (post_at P q)) v q (λ k. pl (cmp_const o k q))) (λ k. Z.taking_s P E r (cmp o k)) p h
+  plain_s (R.equal o) p v ts h e = paired_s _ (eq o) (equal_shown o v) (e_eq o) (equal_const_s o v) (λ k. Z.taking_s P E r (eq o k)) p h
   plain_s (R.logic j) p v ts (zcons {b = m} {qs = ms} a z) e = with_p p _ (λ q. K.logic (cond j (e_and_step q) (e_or_step q)) (cond j (e_and_last q) (e_or_last q)) m ms e) (λ q. junction_s j q a z e)
   plain_s R.coalesce p v ts (zcons a (zcons b z)) e = Y.coalesce_s P E r (a.expr (in_a_handler e)) (b.expr e) ⨟ post_s p
   plain_s R.conditional p v ts (zcons a (zcons b z)) e = a.expr e ⨟ Y.branch_s P E r (b.expr e) (other_s 0 z e) ⨟ post_s p
@@ -169,7 +196,7 @@ module _ (S : Settings) (P : Program) (E : ℕ) (r : Result) where
   plain_s (R.unary u) p v ts (zcons a z) e = a.expr e ⨟ unary_s u p
   plain_s R.add p v ts (zcons a znil) e = a.expr e ⨟ post_s p
   plain_s R.add p v ts (zcons a (zcons b z)) e = Z.pushed_s P E r (a.expr e) (addition_s p b z e)
-  plain_s R.mul p v ts (zcons a (zcons b z)) e = Z.pushed_s P E r (a.expr e) (b.expr e ⨟ with_p p _ (λ q. takes 1 (e_mul q)) (λ q. Z.taking_s P E r (mul q)))
+  plain_s R.mul p v ts (zcons a (zcons b z)) e = bounds_s mul 1 e_mul (λ k. Z.taking_s P E r (mul k)) p a b
   plain_s R.div p v ts (zcons a (zcons b z)) e = b.expr e ⨟ Y.guarded_s P E r (div_guard S.absolute) (a.expr e ⨟ with_p p _ (λ q. takes 1 (e_div q)) (λ q. Z.taking_s P E r (div q)))
   plain_s (R.host_math u) p v ts znil e = Z.flagged_s P E r _ (math_rel (S' e) v no_s (λ f. no_s))
   plain_s (R.host_math u) p v ts (zcons {qs = ms} a z) e = Z.flagged_s P E r _ (math_rel (S' e) v no_s (λ f. rw (zip_length z) (either_rel (S' e) (leb (suc (length ms)) 255) (hosted_s f (suc (length ms)) p a z e) no_s)))

@@ -8,15 +8,15 @@ use lib.Dec.{leb}
 use Rattle.ast.specs.Tree.{Name, Payload, Tree, node, Forest, nil, cons}
 use Rattle.numeric.specs.Post.{Post, is_identity}
 use Rattle.program.specs.Instruction as Instr
-use Rattle.program.specs.Instruction.{Plain, hash, resource, this, negate, not, and_last, or_last, pointer_leave, store_var, store_temp, store_member, cmp_const, eq_const, eq_hash, add_acc, add_last, mul, div, cmp, eq, host_math, load_var, load_temp, load_ctx, member, Guard, div_guard, and_step, or_step, pointer_enter, EachNext, each_next_var, each_next_temp, plain, taking, reading, end, return}
+use Rattle.program.specs.Instruction.{Taking, Plain, hash, resource, this, negate, not, and_last, or_last, pointer_leave, store_var, store_temp, store_member, cmp_const, eq_const, eq_hash, add_acc, add_last, mul, div, cmp, eq, host_math, load_var, load_temp, load_ctx, member, Guard, div_guard, and_step, or_step, pointer_enter, EachNext, each_next_var, each_next_temp, plain, taking, reading, end, return}
 use Rattle.program.specs.Program.{Counts, StoreRoot, root_var, root_temp, root_other}
 use Rattle.semantics.proofs.BoundedControl.{Whole, load_b, ret_b, jumps_b, guarded_b, branch_b, coalesce_b, looped_b, eached_b, query_b}
 use Rattle.semantics.proofs.Bounds.{In, Less, Bound, Fine, cnt_path, taken, ext_bound, after_less, ◌then_b◌, pushed_b, pushed_fine, failing_b, put_b, take_b, flagged_b, interned_b, post_b, temp_b, store_b, constant_b, post_instr_b}
 use Rattle.semantics.proofs.Relations.{Zip, znil, zcons, zip_length, either_rel, name_rel, kind_rel, name_one, hash_rel, math_rel, query_rel}
 use Rattle.semantics.specs.Demand3.{Within}
 use Rattle.semantics.specs.Link.{lowered}
-use Rattle.semantics.specs.Lowering.{Lowerings, member_read, with_root, member_store, is_member, target_refusal, unless, equal_const, array_element, lower_plain, lower_rule, lower, lowers}
-use Rattle.semantics.specs.Payloads.{one, Path, path}
+use Rattle.semantics.specs.Lowering.{Lowerings, member_read, with_root, member_store, is_member, target_refusal, unless, const_operand, equal_const, array_element, lower_plain, lower_rule, lower, lowers}
+use Rattle.semantics.specs.Payloads.{as_hash, one, Path, path}
 use Rattle.semantics.specs.Pieces.{Lowering, flush, failing, const_pool, hash_pool, name_pool, member_pool, constant}
 use Rattle.ast.specs.Header.{Settings}
 use Rattle.ast.specs.Rules.{Rule, rule_at}
@@ -96,6 +96,25 @@ unfolding L.loaded K.loaded
 loaded_b v p q e = post_b p _ λ k. kind_rel Fine v (name_rel Fine 3 v no_b (λ n. flagged_b _ (interned_b name_pool n _ (λ i. load_b (reading (load_ctx i k)) _ e)))) (λ n. temp_b n _ (λ t. load_b (reading (load_temp t k)) _ e))
     (λ n. flagged_b _ (interned_b name_pool n _ (λ i. load_b (reading (load_var i k)) _ e)))
 
+-- a child and the form with a constant, or two children
+paired_b : (f : ℕ → Lowering) (i : ℕ → Taking) (x y : Action) → ((q : ℕ) → Fine (f q) (logs x)) → (p : Post) {ls : List Lowerings} {ms : List Walkings}
+    → Zip Whole ls ms → (e : Scope) → Fine (L.paired f i p ls e.loop) (K.paired x y ms e)
+unfolding L.paired K.paired K.bounds
+paired_b f i x y h p znil e = no_b
+paired_b f i x y h p (zcons a znil) e = post_b p _ λ q. a.expr e then_b h q
+paired_b f i x y h p (zcons a (zcons b z)) e = post_b p _ λ q. pushed_fine (a.expr e) (b.expr e then_b take_b (taking (i q)) 1 y)
+
+equal_const_b : (o : ℕ) (v : Payload) (x : Action) (y : ℕ → Action) (q : ℕ) → Fine (equal_const o v q) (logs (as_hash v x y))
+unfolding equal_const
+equal_const_b o v x y q = hash_rel (λ f u. Fine f (logs u)) v (interned_b const_pool _ _ (λ k. put_b (plain (eq_const o k q)) x))
+    (λ h. flagged_b _ (interned_b hash_pool h _ (λ k. put_b (plain (eq_hash o k q)) (y h))))
+
+-- two children, and what takes k operands
+bounds_b : (i : ℕ → Taking) (k : ℕ) (x : Action) (p : Post) {a b : Lowerings} {m w : Walkings} → Whole a m → Whole b w → (e : Scope)
+    → Bound (L.bounds i p a b e.loop) (K.bounds k x m w e) (λ c. operands- k (operand+ c))
+unfolding L.bounds K.bounds
+bounds_b i k x p a b e = pushed_b (a.expr e) (b.expr e then_b post_b p _ (λ q. take_b (taking (i q)) k x))
+
 module _ (S : Settings) where
   array_b : (x : Bool) (p : Post) (v : Payload) (ts : Forest) {ls : List Lowerings} {ms : List Walkings} → Zip Whole ls ms → (e : Scope) → Fine (cond x (array_element p v ls e.loop) (failing 5)) (walk_plain S R.array p v ts ms e)
   unfolding array_element walk_plain
@@ -105,7 +124,7 @@ module _ (S : Settings) where
   array_b false p v ts h e = failing_b 4 pass_less
 
   plain_b : (r : R.Plain) (p : Post) (v : Payload) (ts : Forest) {ls : List Lowerings} {ms : List Walkings} → Zip Whole ls ms → (e : Scope) → Fine (lower_plain S r p v ts ls e.loop) (walk_plain S r p v ts ms e)
-  unfolding lower_plain walk_plain equal_const
+  unfolding lower_plain walk_plain const_operand
   plain_b R.array p v ts h e = array_b S.from_host p v ts h e
   plain_b R.uses_arrays p v ts h e = failing_b 4 pass_less
   plain_b R.uses_resources p v ts h e = failing_b 5 pass_less
@@ -115,10 +134,8 @@ module _ (S : Settings) where
   plain_b R.this p v ts h e = post_b p _ (λ q. put_b (plain (this q)) _)
   plain_b R.load p v ts h e = loaded_b v p _ e
   plain_b R.query p v ts h e = query_rel Fine v no_b (λ i m. flagged_b _ (query_b e i m p _ h))
-  plain_b (R.compare o) p v ts (zcons a znil) e = post_b p _ λ q. a.expr e then_b interned_b const_pool _ _ (λ k. put_b (plain (cmp_const o k q)) _)
-  plain_b (R.compare o) p v ts (zcons a (zcons b z)) e = post_b p _ λ q. pushed_fine (a.expr e) (b.expr e then_b take_b (taking (cmp o q)) 1 _)
-  plain_b (R.equal o) p v ts (zcons a znil) e = post_b p _ λ q. a.expr e then_b hash_rel Fine v (interned_b const_pool _ _ (λ k. put_b (plain (eq_const o k q)) _)) (λ x. flagged_b _ (interned_b hash_pool x _ (λ k. put_b (plain (eq_hash o k q)) _)))
-  plain_b (R.equal o) p v ts (zcons a (zcons b z)) e = post_b p _ λ q. pushed_fine (a.expr e) (b.expr e then_b take_b (taking (eq o q)) 1 _)
+  plain_b (R.compare o) p v ts h e = paired_b _ (cmp o) _ _ (λ q. interned_b const_pool _ _ (λ k. put_b (plain (cmp_const o k q)) _)) p h e
+  plain_b (R.equal o) p v ts h e = paired_b _ (eq o) _ _ (equal_const_b o v _ _) p h e
   plain_b (R.logic j) p v ts (zcons a z) e = post_b p _ λ q. junction_b (cond j (and_step q) (or_step q)) (cond j (and_last q) (or_last q)) _ _ a z e
   plain_b R.coalesce p v ts (zcons a (zcons b z)) e = coalesce_b (a.expr (in_a_handler e)) (b.expr e) then_b post_instr_b (is_identity p) p
   plain_b R.conditional p v ts (zcons a (zcons b z)) e = a.expr e then_b branch_b (b.expr e) (other_b 0 z e) then_b post_instr_b (is_identity p) p
@@ -134,7 +151,7 @@ module _ (S : Settings) where
   plain_b (R.unary u) p v ts (zcons a z) e = a.expr e then_b post_b p _ (λ q. put_b (plain (cond u (negate q) (not q))) _)
   plain_b R.add p v ts (zcons a znil) e = a.expr e then_b post_instr_b (is_identity p) p
   plain_b R.add p v ts (zcons a (zcons b z)) e = pushed_fine (a.expr e) (addition_b p _ b z e)
-  plain_b R.mul p v ts (zcons a (zcons b z)) e = pushed_fine (a.expr e) (b.expr e then_b post_b p _ (λ q. take_b (taking (mul q)) 1 _))
+  plain_b R.mul p v ts (zcons a (zcons b z)) e = ext_bound (bounds_b mul 1 _ p a b e) same taken
   plain_b R.div p v ts (zcons a (zcons b z)) e = b.expr e then_b guarded_b (div_guard S.absolute) _ operand+ (operands- 1) taken (a.expr e then_b post_b p _ (λ q. take_b (taking (div q)) 1 _))
   plain_b (R.host_math u) p v ts znil e = flagged_b _ (math_rel Fine v no_b (λ f. no_b))
   plain_b (R.host_math u) p v ts (zcons {qs = ms} a z) e = flagged_b _ (math_rel Fine v no_b λ f. rw (zip_length z) (either_rel Fine (leb (suc (length ms)) 255) (ext_bound (hosted_b f _ (length ms) p _ a z e) same (λ c. cnt_path c (omega arith))) no_b))

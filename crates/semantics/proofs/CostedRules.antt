@@ -9,12 +9,12 @@ use lib.Dec.{leb}
 use Rattle.ast.specs.Tree.{Name, Payload, p_none, p_float, p_hash, p_math, p_name, p_query, Tree, node, Forest, nil, cons}
 use Rattle.numeric.specs.Post.{Post, is_identity}
 use Rattle.program.specs.Instruction as Instr
-use Rattle.program.specs.Instruction.{Plain, hash, resource, this, negate, not, and_last, or_last, pointer_leave, store_var, store_temp, store_member, cmp_const, eq_const, eq_hash, add_acc, add_last, mul, div, cmp, eq, host_math, load_var, load_temp, load_ctx, member, Guard, div_guard, and_step, or_step, pointer_enter, jump_if_falsy, EachNext, each_next_var, each_next_temp, plain, taking, reading, guard, end, jump, handler_push, handler_pop, return, call}
+use Rattle.program.specs.Instruction.{Taking, Plain, hash, resource, this, negate, not, and_last, or_last, pointer_leave, store_var, store_temp, store_member, cmp_const, eq_const, eq_hash, add_acc, add_last, mul, div, cmp, eq, host_math, load_var, load_temp, load_ctx, member, Guard, div_guard, and_step, or_step, pointer_enter, jump_if_falsy, EachNext, each_next_var, each_next_temp, plain, taking, reading, guard, end, jump, handler_push, handler_pop, return, call}
 use Rattle.program.specs.Program.{Counts, StoreRoot, root_var, root_temp, root_other}
 use Rattle.semantics.proofs.Costs.{Weight, weigh, weigh_append}
 use Rattle.semantics.proofs.Relations.{either_one, name_one, hash_one, math_one, query_one}
 use Rattle.semantics.specs.Link.{offsets_of, lowered}
-use Rattle.semantics.specs.Lowering.{query, arguments, pointer, returning, Lowerings, member_read, with_root, member_store, is_member, target_refusal, unless, equal_const, close_segment, fill, called, array_element, lower_plain, lower_rule, lower, lowers}
+use Rattle.semantics.specs.Lowering.{query, arguments, pointer, returning, Lowerings, member_read, with_root, member_store, is_member, target_refusal, unless, const_operand, equal_const, close_segment, fill, called, array_element, lower_plain, lower_rule, lower, lowers}
 use Rattle.semantics.specs.Payloads.{link, as_name, Path, longer, path, paths}
 use Rattle.semantics.specs.Pieces.{Lowered, Lowering, put, failing, ◌⨾◌}
 use Rattle.ast.specs.Header.{Settings}
@@ -191,6 +191,20 @@ module _ (w : Weight) where
   unfolding equal_const
   equal_const_c o v q = hash_one (λ f. Cost f (w.co + w.ha + w.i)) v (C.weak w (C.with_const_c w _ _ (λ k. C.put_c w (plain (eq_const o k q)))) (omega arith)) (λ h e. C.flagged_c w _ (C.weak w (C.with_hash_c w h _ (λ k. C.put_c w (plain (eq_hash o k q)))) (omega arith)))
 
+  -- a child and the form with a constant, or two children
+  paired_c : (f : ℕ → Lowering) (i : ℕ → Taking) {m : ℕ} → ((q : ℕ) → Cost (f q) m) → (p : Post) {xs : List Lowerings} {ts : Forest} → Pays xs ts → (l : Bool)
+      → Cost (L.paired f i p xs l) (w.po + w.i + m + costs ts)
+  unfolding L.paired cost
+  paired_c f i h p pnil l = C.failing_c w 7
+  paired_c f i h p (pcons a pnil) l = C.weak w (C.post_c w p _ λ q. a.expr l then_c h q) (omega arith)
+  paired_c f i h p (pcons a (pcons b z)) l = C.weak w (C.post_c w p _ λ q. C.pushed_c w (a.expr l) (b.expr l then_c C.put_c w (taking (i q)))) (omega arith)
+
+  -- two children
+  bounds_c : (i : ℕ → Taking) (p : Post) {a b : Lowerings} {j k : ℕ} → Whole a j → Whole b k → (l : Bool)
+      → Cost (L.bounds i p a b l) (w.po + w.i + w.i + j + k)
+  unfolding L.bounds
+  bounds_c i p a b l = C.weak w (C.pushed_c w (a.expr l) (b.expr l then_c C.post_c w p _ (λ q. C.put_c w (taking (i q))))) (omega arith)
+
   -- each rule by its children, as far as it reads them
   module _ (S : Settings) where
     array_c : (x : Bool) (p : Post) (v : Payload) {xs : List Lowerings} {ts : Forest} → Pays xs ts → (l : Bool) → Cost (cond x (array_element p v xs l) (failing 5)) (own + pay v + costs ts)
@@ -200,7 +214,7 @@ module _ (w : Weight) where
     array_c false p v h l = C.failing_c w 5
 
     plain_c : (r : R.Plain) (p : Post) (v : Payload) {xs : List Lowerings} {ts : Forest} → Pays xs ts → (l : Bool) → Cost (lower_plain S r p v ts xs l) (own + pay v + costs ts)
-    unfolding lower_plain cost
+    unfolding lower_plain const_operand cost
     plain_c R.array p v h l = array_c S.from_host p v h l
     plain_c R.uses_arrays p v h l = C.failing_c w 5
     plain_c R.uses_resources p v h l = C.failing_c w 6
@@ -210,10 +224,8 @@ module _ (w : Weight) where
     plain_c R.this p v h l = C.weak w (C.post_c w p _ (λ q. C.put_c w (plain (this q)))) (omega arith)
     plain_c R.load p v h l = C.weak w (loaded_c v p) (omega arith)
     plain_c R.query p v {ts = ts} h l = query_one (λ f. Cost f (own + pay v + costs ts)) v (C.failing_c w 7) (λ i m e. C.flagged_c w _ (C.weak w (query_cost i m p h) (omega arith)))
-    plain_c (R.compare o) p v (pcons a pnil) l = C.weak w (C.post_c w p _ λ q. a.expr l then_c C.with_const_c w _ _ (λ k. C.put_c w (plain (cmp_const o k q)))) (omega arith)
-    plain_c (R.compare o) p v (pcons a (pcons b z)) l = C.weak w (C.post_c w p _ λ q. C.pushed_c w (a.expr l) (b.expr l then_c C.put_c w (taking (cmp o q)))) (omega arith)
-    plain_c (R.equal o) p v (pcons a pnil) l = C.weak w (C.post_c w p _ λ q. a.expr l then_c equal_const_c o v q) (omega arith)
-    plain_c (R.equal o) p v (pcons a (pcons b z)) l = C.weak w (C.post_c w p _ λ q. C.pushed_c w (a.expr l) (b.expr l then_c C.put_c w (taking (eq o q)))) (omega arith)
+    plain_c (R.compare o) p v h l = C.weak w (paired_c _ (cmp o) (λ q. C.with_const_c w _ _ (λ k. C.put_c w (plain (cmp_const o k q)))) p h l) (omega arith)
+    plain_c (R.equal o) p v h l = C.weak w (paired_c _ (eq o) (equal_const_c o v) p h l) (omega arith)
     plain_c (R.logic j) p v (pcons a z) l = C.weak w (C.post_c w p _ λ q. junction_c (cond j (and_step q) (or_step q)) (cond j (and_last q) (or_last q)) a z l) (omega arith)
     plain_c R.coalesce p v (pcons a (pcons b z)) l = C.weak w (C.fork_c w handler_push handler_pop handler+ (a.expr l) (b.expr l) then_c C.post_instr_c w (is_identity p) p) (omega arith)
     plain_c R.conditional p v (pcons a (pcons b pnil)) l = C.weak w (a.expr l then_c C.fork_c w (guard jump_if_falsy) jump same (b.expr l) (C.constant_c w 0) then_c C.post_instr_c w (is_identity p) p) (omega arith)
@@ -231,7 +243,7 @@ module _ (w : Weight) where
     plain_c (R.unary u) p v (pcons a z) l = C.weak w (a.expr l then_c C.post_c w p _ (λ q. C.put_c w (plain (cond u (negate q) (not q))))) (omega arith)
     plain_c R.add p v (pcons a pnil) l = C.weak w (a.expr l then_c C.post_instr_c w (is_identity p) p) (omega arith)
     plain_c R.add p v (pcons a (pcons b z)) l = C.weak w (C.pushed_c w (a.expr l) (addition_c p b z l)) (omega arith)
-    plain_c R.mul p v (pcons a (pcons b z)) l = C.weak w (C.pushed_c w (a.expr l) (b.expr l then_c C.post_c w p _ (λ q. C.put_c w (taking (mul q))))) (omega arith)
+    plain_c R.mul p v (pcons a (pcons b z)) l = C.weak w (bounds_c mul p a b l) (omega arith)
     plain_c R.div p v (pcons a (pcons b z)) l = C.weak w (b.expr l then_c C.guarded_c w (div_guard S.absolute) operand+ (a.expr l then_c C.post_c w p _ (λ q. C.put_c w (taking (div q))))) (omega arith)
     plain_c (R.host_math u) p v pnil l = C.flagged_c w _ (math_one (λ f. Cost f (own + pay v + costs nil)) v (C.failing_c w 7) (λ f e. C.failing_c w 7))
     plain_c (R.host_math u) p v {xs} {ts} (pcons a z) l = C.flagged_c w _ (math_one (λ f. Cost f (own + pay v + costs ts)) v (C.failing_c w 7) (λ f e. either_one (λ f. Cost f (own + pay v + costs ts)) (leb (length xs) 255) (C.weak w (hosted_c f (length xs) p a z l) (omega arith)) (C.failing_c w 7)))

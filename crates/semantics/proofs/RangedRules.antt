@@ -15,7 +15,7 @@ use Rattle.numeric.specs.Post.{Post, is_identity}
 use Rattle.program.specs.Fits.{Below, Every, FitPost, root_index}
 use Rattle.program.specs.Image.{bit, word_of}
 use Rattle.program.specs.Instruction as Instr
-use Rattle.program.specs.Instruction.{post, hash, resource, this, negate, not, and_last, or_last, pointer_leave, store_var, store_temp, store_member, cmp_const, eq_const, eq_hash, add_acc, add_last, mul, div, cmp, eq, load_var, load_temp, load_ctx, member, div_guard, and_step, or_step, pointer_enter, jump_if_falsy, EachNext, each_next_var, each_next_temp, plain, taking, reading, guard, jump, handler_push, handler_pop, return, each_next}
+use Rattle.program.specs.Instruction.{Plain, Taking, post, hash, resource, this, negate, not, and_last, or_last, pointer_leave, store_var, store_temp, store_member, cmp_const, eq_const, eq_hash, add_acc, add_last, mul, div, cmp, eq, load_var, load_temp, load_ctx, member, div_guard, and_step, or_step, pointer_enter, jump_if_falsy, EachNext, each_next_var, each_next_temp, plain, taking, reading, guard, jump, handler_push, handler_pop, return, each_next}
 use Rattle.program.specs.Kinds.{USES_RANDOM, USES_RANDOM_OP}
 use Rattle.program.specs.Program.{StoreRoot, root_var, root_temp, root_other}
 use Rattle.semantics.proofs.FitTrees.{PayloadFits, float_fits, const_fits, string_fits, resource_fits, TreeFits, ForestFits, name_r, hash_r, math_r, asked_r, kind_r}
@@ -25,7 +25,7 @@ use Rattle.semantics.proofs.RangedPools.{free, with_temp_r, with_store_r, consta
 use Rattle.semantics.proofs.Relations.{either_one}
 use Rattle.semantics.proofs.Ranges.{Fits, Aims, FitText, Under, Ranged, shift, Up, sets_fit, not_fit, queried_fit, every_append, ◌then_r◌, pushed_r, nothing_r, failing_r, put_r, jumps_r, flagged_r}
 use Rattle.semantics.specs.Link.{relocate, settle}
-use Rattle.semantics.specs.Lowering.{statements, logic, terms, host_math, stores, target, each_of, variable, loaded, chained, pointer, returning, Lowerings, member_read, with_root, member_store, is_member, target_refusal, unless, equal_const, is_empty, array_element, lower_plain, lower_rule, lower, lowers}
+use Rattle.semantics.specs.Lowering.{statements, paired, bounds, logic, terms, host_math, stores, target, each_of, variable, loaded, chained, pointer, returning, Lowerings, member_read, with_root, member_store, is_member, target_refusal, unless, const_operand, equal_const, is_empty, array_element, lower_plain, lower_rule, lower, lowers}
 use Rattle.semantics.specs.Payloads.{link, const_of, one, Path, path, paths}
 use Rattle.semantics.specs.Pieces.{Lowering, put, nothing, failing, with_post, constant}
 use Rattle.ast.specs.Header.{Settings}
@@ -120,6 +120,28 @@ statements_r o fo (a ∷ xs) z l = z.0.statement l then_r statements_r o fo xs z
 up_same : Up same
 up_same = record { by = λ c. omega arith }
 
+-- an instruction that takes operands, whose post fits
+abbrev FitsTaking : (ℕ → Taking) → Type 0
+FitsTaking i = (q : ℕ) → Under (q ∷ []) → Fits (instr (taking (i q)))
+
+-- a child and the form with a constant, or two children
+paired_r : (f : ℕ → Lowering) (i : ℕ → Taking) → ((q : ℕ) → Ranged (q ∷ []) (f q)) → FitsTaking i → (p : Post) → FitPost p
+    → (xs : List Lowerings) → Every Ranges xs → (l : Bool) → Ranged [] (paired f i p xs l)
+unfolding paired
+paired_r f i hf hi p fp [] z l = failing_r 7
+paired_r f i hf hi p fp (a ∷ []) z l = post_r p fp _ λ q. free (z.0.expr l) then_r hf q
+paired_r f i hf hi p fp (a ∷ b ∷ xs) z l = post_r p fp _ λ q. pushed_r (free (z.0.expr l)) (free (z.1.0.expr l) then_r put_r (taking (i q)) (hi q))
+
+const_operand_r : (i : ℕ → ℕ → Plain) → ((k q : ℕ) → Under (k ∷ q ∷ []) → Fits (instr (plain (i k q)))) → (v : Payload) → PayloadFits v
+    → (q : ℕ) → Ranged (q ∷ []) (const_operand i v q)
+unfolding const_operand
+const_operand_r i h v fv q = with_const_r _ (const_fits v fv) _ (λ k. put_r (plain (i k q)) (h k q))
+
+-- two children
+bounds_r : (i : ℕ → Taking) → FitsTaking i → (p : Post) → FitPost p → (a b : Lowerings) → Ranges a → Ranges b → (l : Bool) → Ranged [] (bounds i p a b l)
+unfolding bounds
+bounds_r i h p fp a b fa fb l = pushed_r (fa.expr l) (fb.expr l then_r post_r p fp _ (λ q. put_r (taking (i q)) (h q)))
+
 junction_r : (j : Bool) (q : ℕ) (a : Lowerings) → Ranges a → (xs : List Lowerings) → Every Ranges xs → (l : Bool) → Ranged (q ∷ []) (logic (cond j (and_step q) (or_step q)) (cond j (and_last q) (or_last q)) a xs l)
 unfolding logic settle relocate word_of
 junction_r j q a fa [] z l = free (fa.expr l) then_r put_r (plain (cond j (and_last q) (or_last q))) (λ u. either_one (λ i. Fits (instr (plain i))) j (λ b h. omega (arith, u.0)) (λ b h. omega (arith, u.0)))
@@ -194,10 +216,12 @@ module _ (S : Settings) where
   plain_r R.this e p fp v fv ts ft xs z l = post_r p fp _ (λ q. put_r (plain (this q)) (λ u b h. omega (arith, u.0)))
   plain_r R.load e p fp v fv ts ft xs z l = loaded_r v fv p fp
   plain_r R.query e p fp v fv ts ft xs z l = asked_r (Ranged []) v fv (failing_r 7) (λ i m fi fm. flagged_r _ (queried_fit (is_empty xs)) (query_r i m p fi fm fp xs z))
-  plain_r (R.compare o) e p fp v fv ts ft (a ∷ []) z l = post_r p fp _ λ q. free (z.0.expr l) then_r with_const_r _ (const_fits v fv) _ (λ k. put_r (plain (cmp_const o k q)) (λ u b h. let fo = leb-true o 3 e in omega (arith, u.0, u.1.0)))
-  plain_r (R.compare o) e p fp v fv ts ft (a ∷ b ∷ xs) z l = post_r p fp _ λ q. pushed_r (free (z.0.expr l)) (free (z.1.0.expr l) then_r put_r (taking (cmp o q)) (λ u b h. let fo = leb-true o 3 e in omega (arith, u.0)))
-  plain_r (R.equal o) e p fp v fv ts ft (a ∷ []) z l = post_r p fp _ λ q. free (z.0.expr l) then_r equal_const_r o (let fo = leb-true o 1 e in omega arith) v fv q
-  plain_r (R.equal o) e p fp v fv ts ft (a ∷ b ∷ xs) z l = post_r p fp _ λ q. pushed_r (free (z.0.expr l)) (free (z.1.0.expr l) then_r put_r (taking (eq o q)) (λ u b h. let fo = leb-true o 1 e in omega (arith, u.0)))
+  plain_r (R.compare o) e p fp v fv ts ft xs z l =
+      let fo : o ≤ 3 = leb-true o 3 e in
+      paired_r _ (cmp o) (const_operand_r (cmp_const o) (λ k q u b h. omega (arith, u.0, u.1.0)) v fv) (λ q u b h. omega (arith, u.0)) p fp xs z l
+  plain_r (R.equal o) e p fp v fv ts ft xs z l =
+      let fo : o ≤ 1 = leb-true o 1 e in
+      paired_r _ (eq o) (equal_const_r o (omega arith) v fv) (λ q u b h. omega (arith, u.0)) p fp xs z l
   plain_r (R.logic j) e p fp v fv ts ft (a ∷ xs) z l = post_r p fp _ λ q. junction_r j q a z.0 xs z.1 l
   plain_r R.coalesce e p fp v fv ts ft (a ∷ b ∷ xs) z l = fork_r handler_push handler_pop handler+ (record { by = λ c. omega arith }) (λ t h b i. let e = shift b t in omega arith) (λ t h b i. let e = shift b t in omega arith) (z.0.expr l) (z.1.0.expr l) then_r post_instruction_r (is_identity p) p fp
   plain_r R.conditional e p fp v fv ts ft (a ∷ b ∷ xs) z l = z.0.expr l then_r fork_r (guard jump_if_falsy) jump same up_same (λ t h b i. let e = shift b t in omega arith) fits_jump (z.1.0.expr l) (other_r xs z.1.1 0 (omega arith) l) then_r post_instruction_r (is_identity p) p fp
@@ -213,7 +237,7 @@ module _ (S : Settings) where
   plain_r (R.unary u) e p fp v fv ts ft (a ∷ xs) z l = z.0.expr l then_r post_r p fp _ (λ q. put_r (plain (cond u (negate q) (not q))) (λ i. either_one (λ g. Fits (instr (plain g))) u (λ b h. omega (arith, i.0)) (λ b h. omega (arith, i.0))))
   plain_r R.add e p fp v fv ts ft (a ∷ []) z l = z.0.expr l then_r post_instruction_r (is_identity p) p fp
   plain_r R.add e p fp v fv ts ft (a ∷ b ∷ xs) z l = pushed_r (z.0.expr l) (addition_r p fp b z.1.0 xs z.1.1 l)
-  plain_r R.mul e p fp v fv ts ft (a ∷ b ∷ xs) z l = pushed_r (z.0.expr l) (z.1.0.expr l then_r post_r p fp _ (λ q. put_r (taking (mul q)) (λ u b h. omega (arith, u.0))))
+  plain_r R.mul e p fp v fv ts ft (a ∷ b ∷ xs) z l = bounds_r mul (λ q u b h. omega (arith, u.0)) p fp a b z.0 z.1.0 l
   plain_r R.div e p fp v fv ts ft (a ∷ b ∷ xs) z l = z.1.0.expr l then_r guarded_r (div_guard S.absolute) operand+ (record { by = λ c. omega arith }) (λ u. aims_div_guard S.absolute) (z.0.expr l then_r post_r p fp _ (λ q. put_r (taking (div q)) (λ u b h. omega (arith, u.0))))
   plain_r (R.host_math u) e p fp v fv ts ft [] z l = flagged_r _ (sets_fit (cond u (USES_RANDOM + USES_RANDOM_OP) 0) (either_one (◌< 2048) u (omega arith) (omega arith))) (math_r (Ranged []) v fv (failing_r 7) (λ f ff. failing_r 7))
   plain_r (R.host_math u) e p fp v fv ts ft (a ∷ xs) z l = flagged_r _ (sets_fit (cond u (USES_RANDOM + USES_RANDOM_OP) 0) (either_one (◌< 2048) u (omega arith) (omega arith))) (math_r (Ranged []) v fv (failing_r 7) (λ f ff. few_r f (suc (length xs)) ff p fp a z.0 xs z.1 l (leb (suc (length xs)) 255) refl))

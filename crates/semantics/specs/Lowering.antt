@@ -10,7 +10,7 @@ use Rattle.ast.specs.Rules.{Rule, rule_at}
 use Rattle.ast.specs.Tree.{Name, Payload, Tree, node, Forest, nil, cons}
 use Rattle.program.specs.Kinds.{HAS_ASSIGNMENT, HAS_LOOPS, READS_ACTOR_VARS, READS_CONTEXT, USES_ARROW, USES_MEMBERS, USES_RANDOM, USES_RANDOM_OP}
 use Rattle.program.specs.Instruction as I
-use Rattle.program.specs.Instruction.{Plain, Guard, EachNext}
+use Rattle.program.specs.Instruction.{Taking, Plain, Guard, EachNext}
 use Rattle.program.specs.Program.{Counts, StoreRoot, root_var, root_temp, root_other}
 use Rattle.semantics.specs.Positions.{past}
 use Rattle.semantics.specs.Payloads as P
@@ -112,6 +112,26 @@ target (cons (node op q v us) ts) f p = unless (target_refusal (rule_at op) v) (
 
 -- ---- logic
 
+-- a child and the form with a constant, or two children and the instruction of both; the post is interned first
+unfoldable pub paired : (ℕ → Lowering) → (ℕ → Taking) → Post → List Lowerings → Bool → Lowering
+paired with_constant i p xs l = P.some xs (failing Refusal.FAILED) λ a ys. do
+  q ← with_post p
+  P.some ys (do a.expr l; with_constant q) λ b zs. pushed (a.expr l) do
+    b.expr l
+    put (I.taking (i q))
+
+-- the payload's constant is the second operand
+unfoldable pub const_operand : (ℕ → ℕ → Plain) → Payload → ℕ → Lowering
+const_operand i v q = do
+  k ← with_const (const_of v)
+  put (I.plain (i k q))
+
+-- 01, Slips: "equality gives EqHash"; not float only
+unfoldable pub equal_const : ℕ → Payload → ℕ → Lowering
+equal_const o v q = as_hash v
+    (do k ← with_const (float_of v); put (I.plain (I.eq_const o k q)))
+    (λ h. flagged not_float_only (do k ← with_hash h; put (I.plain (I.eq_hash o k q))))
+
 unfoldable pub logic : Guard → Plain → Lowerings → List Lowerings → Bool → Lowering
 logic step last a [] l = do
   a.expr l
@@ -120,13 +140,14 @@ logic step last a (b ∷ xs) l = do
   a.expr l
   guarded step same (logic step last b xs l)
 
--- 01, Slips: "equality gives EqHash"; not float only
-unfoldable pub equal_const : ℕ → Payload → ℕ → Lowering
-equal_const o v q = as_hash v
-    (do k ← with_const (float_of v); put (I.plain (I.eq_const o k q)))
-    (λ h. flagged not_float_only (do k ← with_hash h; put (I.plain (I.eq_hash o k q))))
-
 -- ---- arith
+
+-- two children, and the instruction of both with the post behind them
+unfoldable pub bounds : (ℕ → Taking) → Post → Lowerings → Lowerings → Bool → Lowering
+bounds i p a b l = pushed (a.expr l) do
+  b.expr l
+  q ← with_post p
+  put (I.taking (i q))
 
 unfoldable pub terms : Post → Lowerings → List Lowerings → Bool → Lowering
 terms p a [] l = do
@@ -248,25 +269,8 @@ module _ (S : Settings) where
     put (I.plain (I.this q))
   lower_plain R.load p v ts xs l = loaded v p
   lower_plain R.query p v ts xs l = as_query v (failing Refusal.FAILED) λ i m. flagged (queried (is_empty xs)) (query i m p xs)
-  lower_plain (R.compare o) p v ts xs l = P.some xs (failing Refusal.FAILED) λ a ys. do
-    q ← with_post p
-    P.some ys
-        (do
-          a.expr l
-          k ← with_const (const_of v)
-          put (I.plain (I.cmp_const o k q)))
-        λ b zs. pushed (a.expr l) do
-          b.expr l
-          put (I.taking (I.cmp o q))
-  lower_plain (R.equal o) p v ts xs l = P.some xs (failing Refusal.FAILED) λ a ys. do
-    q ← with_post p
-    P.some ys
-        (do
-          a.expr l
-          equal_const o v q)
-        λ b zs. pushed (a.expr l) do
-          b.expr l
-          put (I.taking (I.eq o q))
+  lower_plain (R.compare o) p v ts xs l = paired (const_operand (I.cmp_const o) v) (I.cmp o) p xs l
+  lower_plain (R.equal o) p v ts xs l = paired (equal_const o v) (I.eq o) p xs l
   lower_plain (R.logic j) p v ts xs l = P.some xs (failing Refusal.FAILED) λ a ys. do
     q ← with_post p
     logic (cond j (I.and_step q) (I.or_step q)) (cond j (I.and_last q) (I.or_last q)) a ys l
@@ -299,7 +303,7 @@ module _ (S : Settings) where
         a.expr l
         post_instruction p)
       λ b zs. pushed (a.expr l) (terms p b zs l)
-  lower_plain R.mul p v ts xs l = two xs (failing Refusal.FAILED) λ a b. pushed (a.expr l) (do b.expr l; q ← with_post p; put (I.taking (I.mul q)))
+  lower_plain R.mul p v ts xs l = two xs (failing Refusal.FAILED) λ a b. bounds I.mul p a b l
   lower_plain R.div p v ts xs l = two xs (failing Refusal.FAILED) λ a b. do
     b.expr l
     guarded (I.div_guard S.absolute) operand+ do

@@ -177,6 +177,18 @@ statements o (a ∷ xs) e = do
   a.statement e
   statements o xs e
 
+-- two children, and what takes k operands
+unfoldable pub bounds : ℕ → Action → Walkings → Walkings → Scope → Walking
+bounds k x a b e = do
+  a.expr e
+  pushes
+  b.expr e
+  takes k x
+
+-- a child and the event of the form with a constant, or two children and the event of both
+unfoldable pub paired : Action → Action → List Walkings → Scope → Walking
+paired with_constant x xs e = some xs pass λ a ys. some ys (do a.expr e; logs with_constant) λ b zs. bounds 1 x a b e
+
 unfoldable pub logic : Action → Action → Walkings → List Walkings → Scope → Walking
 logic step last a [] e = do
   a.expr e
@@ -247,24 +259,9 @@ module _ (S : Settings) where
   walk_plain R.this p v ts xs e = logs (E.e_this (shown p))
   walk_plain R.load p v ts xs e = loaded v (shown p) e
   walk_plain R.query p v ts xs e = as_query v pass λ i m w. arguments 0 xs (perhaps e) (note (E.e_call i m (length xs) (shown p)) w)
-  walk_plain (R.compare o) p v ts xs e = some xs pass λ a ys. some ys
-      (do
-        a.expr e
-        logs (E.e_cmp_const o (const_of v) (shown p)))
-      λ b zs. do
-        a.expr e
-        pushes
-        b.expr e
-        takes 1 (E.e_cmp o (shown p))
-  walk_plain (R.equal o) p v ts xs e = some xs pass λ a ys. some ys
-      (do
-        a.expr e
-        as_hash v (logs (E.e_eq_const o (float_of v) (shown p))) (λ h. logs (E.e_eq_hash o h (shown p))))
-      λ b zs. do
-        a.expr e
-        pushes
-        b.expr e
-        takes 1 (E.e_eq o (shown p))
+  walk_plain (R.compare o) p v ts xs e = paired (E.e_cmp_const o (const_of v) (shown p)) (E.e_cmp o (shown p)) xs e
+  walk_plain (R.equal o) p v ts xs e =
+      paired (as_hash v (E.e_eq_const o (float_of v) (shown p)) (λ h. E.e_eq_hash o h (shown p))) (E.e_eq o (shown p)) xs e
   walk_plain (R.logic j) p v ts xs e = some xs pass λ a ys.
       logic (cond j (E.e_and_step (shown p)) (E.e_or_step (shown p))) (cond j (E.e_and_last (shown p)) (E.e_or_last (shown p))) a ys e
   walk_plain R.coalesce p v ts xs e = two xs pass λ a b. do
@@ -300,11 +297,7 @@ module _ (S : Settings) where
         a.expr e
         pushes
         terms (shown p) b zs e
-  walk_plain R.mul p v ts xs e = two xs pass λ a b. do
-    a.expr e
-    pushes
-    b.expr e
-    takes 1 (E.e_mul (shown p))
+  walk_plain R.mul p v ts xs e = two xs pass λ a b. bounds 1 (E.e_mul (shown p)) a b e
   walk_plain R.div p v ts xs e = two xs pass λ a b. do
     b.expr e
     guarded (E.e_div_guard S.absolute) operand+ do
