@@ -1,11 +1,10 @@
--- What follows behind the first operand of a sum's rest and of a host call, as their loops take it; and a call as one step. Assumes nothing.
+-- A node by its rule; what follows behind the first operand of a sum's rest and of a host call, as their loops take it; a call as one step. Assumes nothing.
 use mathlib.Core.Path.{◌≡◌, refl}
 use mathlib.Core.Bool.{Bool}
 use mathlib.Core.List.{List}
 use Prim.Native.Nat.{ℕ, zero, suc, ◌-◌}
 use native.Mathlib.Numerals.{sub-one}
 use lib.Dec.{eqb}
-use Rattle.ast.specs.Rules.{Rule}
 use Rattle.ast.specs.Node.{next_at, count_at, first_at}
 use Rattle.program.specs.Opcodes as O
 use Rattle.payload.specs.declared.NameRef.{NameRef}
@@ -19,15 +18,13 @@ use Rattle.lowering.specs.Pools.{Found}
 use Rattle.lowering.specs.Parts.{Step, instr, put_post, call_begun}
 use Rattle.lowering.specs.Payloads.{cases, as_query}
 use Rattle.lowering.specs.Steps.{queried}
-use Rattle.lowering.specs.declared.inside.Inside.{Inside}
 use Rattle.lowering.specs.Rules.{rule, branch, expr, under, terms, host_arguments, arguments, called, query}
 
 -- a node that has a level is what its rule makes of it, its children a level deeper
-pub by_rule : (t : List ℕ) (n p : ℕ) (l : Bool) (h : Held) (i : Inside) {r : Rule} {g : Held} → (n ≡ 0 → ⊥) → i ≡ record { looping = l; levels = n - 1 } → r ≡ rule t p
-    → g ≡ under t i.levels (branch t) i.levels p i.looping r h → g ≡ expr t n p l h
+pub by_rule : (t : List ℕ) (n p : ℕ) (l : Bool) (h : Held) → (n ≡ 0 → ⊥) → expr t n p l h ≡ under t (n - 1) (branch t) (n - 1) p l (rule t p) h
 unfolding expr
-by_rule t zero p l h i z ei er eg = absurd (z refl)
-by_rule t (suc n) p l h i z ei er eg = rw (eg, ei, er, sub-one (suc n))
+by_rule t zero p l h z = absurd (z refl)
+by_rule t (suc n) p l h z = rw (sub-one (suc n))
 
 module _ (t : List ℕ) (E : ℕ → Bool → Step) (C : ℕ → NameRef → Bool → Step) (R : ℕ → Bool → Step) where
   -- m more terms behind one, from q on

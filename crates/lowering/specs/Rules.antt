@@ -321,18 +321,18 @@ module _ (t : List ℕ) where
   unfoldable mutual
     pub expr : ℕ → ℕ → Bool → Step
     expr zero p l h = failed Refusal.Failed h
-    expr (suc n) p l h = branch t (λ q l g. expr n q l g) (λ q x l g. chain n q x l g) (λ q l g. returned n q l g) n p l (rule t p) h
+    expr (suc n) p l h = branch t (expr n) (chain n) (returned n) n p l (rule t p) h
 
     pub chain : ℕ → ℕ → NameRef → Bool → Step
     chain zero p last l h = failed Refusal.Failed h
     chain (suc n) p last l h =
         cond (is_link t p)
-        (chained t (λ q l g. expr n q l g) (λ q x l g. chain n q x l g) (λ q l g. returned n q l g) p last l h)
-        (branch t (λ q l g. expr n q l g) (λ q x l g. chain n q x l g) (λ q l g. returned n q l g) n p l (rule t p) h)
+        (chained t (expr n) (chain n) (returned n) p last l h)
+        (branch t (expr n) (chain n) (returned n) n p l (rule t p) h)
 
     pub returned : ℕ → ℕ → Bool → Step
     returned zero p l h = failed Refusal.Failed h
-    returned (suc n) p l h = ret t (λ q l g. expr n q l g) (λ q x l g. chain n q x l g) (λ q l g. returned n q l g) p l h
+    returned (suc n) p l h = ret t (expr n) (chain n) (returned n) p l h
 
 -- a rule over the lowerings of children of so many levels
 module _ (t : List ℕ) where

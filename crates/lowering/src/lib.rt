@@ -118,7 +118,7 @@ fn start() -> State<Refusal>
 
 // The node as an expression. A `match` on the rule here and in `plain`, which is a rule of the project: `expr` calls the rules, and they call `expr`.
 #[cycle(expression)]
-#[tactic(auto, unfolding(crate::specs::Rules::expr, crate::specs::Rules::branch))]
+#[tactic(auto, unfolding(crate::specs::Rules::expr, crate::specs::Rules::branch), using(crate::proofs::Rounds::by_rule))]
 fn expr(b: &mut Builder<'_>, node: Node<'_>, inside: Inside)
     ensures { Did b.old b.new (R.expr (bytes node.entry) inside.levels node.entry.at inside.looping) }
 {
