@@ -44,10 +44,6 @@ pub node_sound : (n : ℕ) (tree : List ℕ) (p : ℕ) → Sound n tree p → No
 node_sound zero tree p h = absurd h
 node_sound (suc n) tree p h = h.0
 
-first_of : (S : ℕ → Type 0) (tree : List ℕ) (m q : ℕ) → 1 ≤ m → SoundRow S tree m q → S q
-first_of S tree zero q l h = absurd (omega arith)
-first_of S tree (suc m) q l h = h.0
-
 pub first_sound : (n : ℕ) (tree : List ℕ) (p : ℕ) → 1 ≤ count_at tree p → Sound (suc n) tree p → Sound n tree (first_at tree p)
 first_sound n tree p l h = search rules
 
@@ -67,10 +63,6 @@ fit_sound s p e le h l u =
     let end = leb-true (p + (4 + len_at s p)) e z.1 in
     let size = (name_kind_lem s p (be8 s p 22) (kind_at s p) l u).takes in
     omega (arith, own, end, size, le)
-
-chosen : (a b : Bool) → elim a as (λ _. Bool) [ true ↦ b | false ↦ false ] ≡ true → (a ≡ true) × (b ≡ true)
-chosen true b h = (refl, h)
-chosen false b h = absurd (false≢true h)
 
 row_says : (inside : ℕ → Bool) (s : List ℕ) (n p e : ℕ) → row inside s (suc n) p e ≡ true
     → (fits s p e ≡ true) × (inside p ≡ true) × (row inside s n (next_at s p) e ≡ true)
