@@ -161,12 +161,8 @@ module _ (tree : List ℕ) where
   pool_inside i = (omega arith, omega arith)
 
   pub pool_fits : (i : Pooled) (A : Abs) → Fits A → length ((row tree i).pool.get A.state.pools) ≤ (row tree i).region.room
-  pool_fits consts A f = f.consts
-  pool_fits posts A f = f.posts
-  pool_fits hashes A f = f.hashes
-  pool_fits names A f = f.names
-  pool_fits temps A f = f.temps
-  pool_fits members A f = f.members
+  pool_fits consts A f = omega arith
+  pool_fits i A f = omega arith
 
   pub pool_keep : (ws vs : List ℕ) (A : Abs) → Fits A → (i : Pooled) → Agree ws vs (row tree i).region.from (end_of i)
       → (n : N.Pools) → PoolHeld tree ws n A.state.pools i → PoolHeld tree vs n A.state.pools i
