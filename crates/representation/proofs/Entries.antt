@@ -9,7 +9,7 @@ use Rattle.card.specs.Holds.{TextIs}
 use Rattle.lowering.proofs.Hits.{Stand}
 use Rattle.workspace.specs.Words.{high, low}
 use Rattle.lowering.specs.Pools.{SHARED, text_place}
-use Rattle.representation.proofs.Represents.{Pooled, consts, posts, hashes, names, temps, members, row}
+use Rattle.representation.proofs.Represents.{Pooled, consts, posts, hashes, names, temps, members, Row, row}
 
 -- ---- equal keys
 
@@ -24,11 +24,15 @@ abbrev pub Stored : List ℕ → ℕ → List ℕ → Type 0
 Stored us p entry = (j : ℕ) → j < length entry → get_or us (p + j) 0 ≡ get_or entry j 0
 
 -- an entry's words: they give the claim on an entry, and the key's are those of an entry of the same key
-pub record Keyed (tree : List ℕ) (i : Pooled) (v : (row tree i).Entry) (entry : List ℕ) : Type 0 where
-  pub size : length entry ≡ (row tree i).region.width
-  pub stored : (us : List ℕ) (p : ℕ) → Stored us p entry → (row tree i).At us p v
-  pub found : (us : List ℕ) (p : ℕ) (x : (row tree i).Entry) → (row tree i).At us p x → Stand us p (take (row tree i).region.key entry) → (row tree i).pool.key x ≡ (row tree i).pool.key v
-  pub stands : (us : List ℕ) (p : ℕ) (x : (row tree i).Entry) → (row tree i).At us p x → (row tree i).pool.key x ≡ (row tree i).pool.key v → Stand us p (take (row tree i).region.key entry)
+module _ (tree : List ℕ) (i : Pooled) where
+  abbrev r : Row tree
+  r = row tree i
+
+  pub record Keyed (v : r.Entry) (entry : List ℕ) : Type 0 where
+    pub size : length entry ≡ r.region.width
+    pub stored : (us : List ℕ) (p : ℕ) → Stored us p entry → r.At us p v
+    pub found : (us : List ℕ) (p : ℕ) (x : r.Entry) → r.At us p x → Stand us p (take r.region.key entry) → r.pool.key x ≡ r.pool.key v
+    pub stands : (us : List ℕ) (p : ℕ) (x : r.Entry) → r.At us p x → r.pool.key x ≡ r.pool.key v → Stand us p (take r.region.key entry)
 
 first_stored : (us : List ℕ) (p v : ℕ) → get_or us (p + 0) 0 ≡ v → get_or us p 0 ≡ v
 first_stored us p v q = let e : p + 0 ≡ p = omega arith in subst (λ (n : ℕ). get_or us n 0 ≡ v) e q
@@ -90,7 +94,8 @@ module _ (tree : List ℕ) where
     stands = λ us p x q e. (q.hash.high ∙ ap high e, (q.hash.low ∙ ap low e, tt));
   }
 
-  pub member_keyed : (r l : NameRef) → TextOf r → TextOf l → Keyed tree members (read_of r l) (high r.hash ∷ low r.hash ∷ high l.hash ∷ low l.hash ∷ text_place r.at ∷ text_place l.at ∷ [])
+  pub member_keyed : (r l : NameRef) → TextOf r → TextOf l → Keyed tree members (read_of r l)
+      (high r.hash ∷ low r.hash ∷ high l.hash ∷ low l.hash ∷ text_place r.at ∷ text_place l.at ∷ [])
   unfolding member_entry
   member_keyed r l g h = record {
     size = refl;
@@ -111,7 +116,8 @@ module _ (tree : List ℕ) where
         let e : p + 1 + 1 ≡ p + 2 = omega arith in
         let f : p + 2 + 1 ≡ p + 3 = omega arith in
         let t = rw (e, f) at s.1.1 in
-        pair_eq (equal_hashes x.own.hash r.hash (sym q.0.hash.high ∙ s.0) (sym q.0.hash.low ∙ s.1.0)) (equal_hashes x.last.hash l.hash (sym q.1 ∙ t.0) (sym q.2 ∙ t.1.0));
+        pair_eq (equal_hashes x.own.hash r.hash (sym q.0.hash.high ∙ s.0) (sym q.0.hash.low ∙ s.1.0))
+        (equal_hashes x.last.hash l.hash (sym q.1 ∙ t.0) (sym q.2 ∙ t.1.0));
     stands = λ us p x q k.
         let e : p + 1 + 1 ≡ p + 2 = omega arith in
         let f : p + 2 + 1 ≡ p + 3 = omega arith in

@@ -2,7 +2,6 @@
 use Rattle.std.proofs.Common.{rules, ◌≡◌, refl, sym, subst, Bool, true, false, cond, List, [], ◌∷◌, ℕ, suc, ◌+◌, ◌*◌, ◌≤◌, ◌<◌, arith, length, take}
 use native.Mathlib.Nat.{mul-suc}
 use Rattle.std.proofs.Math.Nat.{mul-le-mul_left}
-use Rattle.ast.specs.Tree.{Name}
 use Rattle.numeric.specs.Post.{Post, is_identity}
 use Rattle.program.specs.Kinds.{USES_TEMPS}
 use Rattle.program.specs.Program.{Counts}
@@ -22,9 +21,8 @@ use Rattle.lowering.specs.Pools.{Found, interned, behind_identity}
 use Rattle.lowering.specs.Parts as L
 use Rattle.lowering.specs.Parts.{Step, going}
 use Rattle.lowering.proofs.Hits.{hit_decides}
-use Rattle.representation.proofs.Rows.{Apart}
-use Rattle.representation.proofs.Represents.{Pooled, consts, posts, hashes, names, temps, members, Row, row, PoolHeld, pool_held, all_held, Abs, Fits, Table, Content, Does, Enters, run, on_state}
-use Rattle.representation.proofs.Keeps.{entries, end_of, pool_inside, pool_fits, pool_keep, pools_changed}
+use Rattle.representation.proofs.Represents.{Pooled, consts, posts, hashes, names, temps, members, Row, row, TableOf, PoolHeld, pool_held, all_held, Abs, Fits, Content, Does, Enters, run, on_state}
+use Rattle.representation.proofs.Keeps.{entries, end_of, OnlyIn, pool_inside, pool_fits, pool_keep, pools_changed}
 use Rattle.representation.proofs.Pools.{length_intern, slot_within, apart_wider, apart_agree, interned_apart, table_slot, table_interned}
 use Rattle.representation.proofs.Entries.{Keyed, const_keyed, slot_keyed, hash_keyed, post_keyed, name_keyed, member_keyed, TextOf, read_of}
 
@@ -63,13 +61,14 @@ module _ (tree : List ℕ) where
   set_only i xs Q = refl
 
   -- a longer list fits no better
-  shorter : (i : Pooled) (A : Abs) (xs : List (row tree i).Entry) → length ((row tree i).pool.get A.state.pools) ≤ length xs → Fits (on_state (with_list tree i xs) A) → Fits A
+  shorter : (i : Pooled) (A : Abs) (xs : List (row tree i).Entry) → length ((row tree i).pool.get A.state.pools) ≤ length xs
+      → Fits (on_state (with_list tree i xs) A) → Fits A
   shorter consts A xs l f = search rules
   shorter i A xs l f = search rules
 
-  -- words of region i have changed, and are a new table: the pools are that table, and for the others what they were
-  put : (ws vs : List ℕ) (A : Abs) → Fits A → (n : N.Pools) (i j : Pooled) (m : ℕ) (xs : List (row tree i).Entry) → Apart ws vs (row tree i).region.from (end_of tree i)
-      → Table (row tree i).region.width ((row tree i).At vs) (row tree i).region.from m xs → PoolHeld tree ws n A.state.pools j
+  -- only words of region i have changed: its pool is the new table, and the others are what they were
+  put : (ws vs : List ℕ) (A : Abs) → Fits A → (n : N.Pools) (i j : Pooled) (m : ℕ) (xs : List (row tree i).Entry) → OnlyIn tree i ws vs
+      → TableOf tree vs i m xs → PoolHeld tree ws n A.state.pools j
       → PoolHeld tree vs ((row tree i).region.set_count m n) ((row tree i).pool.set xs A.state.pools) j
   put ws vs A f n consts consts m xs a y t = y
   put ws vs A f n posts posts m xs a y t = y
@@ -79,58 +78,61 @@ module _ (tree : List ℕ) where
   put ws vs A f n members members m xs a y t = y
   put ws vs A f n i j m xs a y t = pool_keep tree ws vs A f j (apart_agree a (λ k p q l. omega arith)) n t
 
-  changed : (i : Pooled) (c : Counts) (A : Abs) (h : Held) (vs : List ℕ) (m : ℕ) (xs : List (row tree i).Entry) → Fits A → Content tree c h A → Apart h.1 vs (row tree i).region.from (end_of tree i)
-      → Table (row tree i).region.width ((row tree i).At vs) (row tree i).region.from m xs → Content tree c (B.set_pools ((row tree i).region.set_count m h.0.pools) h.0, vs) (on_state (with_list tree i xs) A)
-  changed i c A h vs m xs f x a y =
-      let r = row tree i in
-      let n = h.0.pools in
-      let Q = r.pool.set xs A.state.pools in
-      let b = pool_inside tree i in
-      subst (λ (R : Pools). Content tree c (B.set_pools (r.region.set_count m n) h.0, vs) (on_state (set_pools R) A)) (set_only i xs A.state.pools)
-      (record {
-        enough = omega (arith, x.enough, a.same_length);
-        beside = x.beside;
-        tables = pools_changed tree h.1 vs A f (apart_wider a CONSTS STORES b.0 b.1) x.tables {m = r.region.set_count m n} Q
-            (all_held tree vs (r.region.set_count m n) Q λ j. put h.1 vs A f n i j m xs a y (pool_held tree h.1 n A.state.pools x.tables.pools_held j));
-      })
-
 module _ (tree : List ℕ) (i : Pooled) where
   abbrev r : Row tree
   r = row tree i
 
-  size : (A : Abs) (xs : List r.Entry) → Fits (on_state (with_list tree i xs) A) → length xs ≤ r.region.room
-  size A xs f = subst (λ (ys : List r.Entry). length ys ≤ r.region.room) (got tree i xs A.state.pools) (pool_fits tree i (on_state (with_list tree i xs) A) f)
+  abbrev e : B.Pool
+  e = r.region
+
+  changed : (c : Counts) (A : Abs) (h : Held) (vs : List ℕ) (m : ℕ) (xs : List r.Entry) → Fits A → Content tree c h A → OnlyIn tree i h.1 vs → TableOf tree vs i m xs
+      → Content tree c (B.set_pools (e.set_count m h.0.pools) h.0, vs) (on_state (with_list tree i xs) A)
+  changed c A h vs m xs f x a y =
+      let n = h.0.pools in
+      let Q = r.pool.set xs A.state.pools in
+      let b = pool_inside tree i in
+      subst (λ (R : Pools). Content tree c (B.set_pools (e.set_count m n) h.0, vs) (on_state (set_pools R) A)) (set_only tree i xs A.state.pools)
+      (record {
+        enough = omega (arith, x.enough, a.same_length);
+        beside = x.beside;
+        tables = pools_changed tree h.1 vs A f (apart_wider a CONSTS STORES b.0 b.1) x.tables {m = e.set_count m n} Q
+            (all_held tree vs (e.set_count m n) Q λ j. put tree h.1 vs A f n i j m xs a y (pool_held tree h.1 n A.state.pools x.tables.pools_held j));
+      })
+
+  size : (A : Abs) (xs : List r.Entry) → Fits (on_state (with_list tree i xs) A) → length xs ≤ e.room
+  size A xs f = subst (λ (ys : List r.Entry). length ys ≤ e.room) (got tree i xs A.state.pools) (pool_fits tree i (on_state (with_list tree i xs) A) f)
 
   module _ {v : r.Entry} {entry : List ℕ} (D : Keyed tree i v entry) where
-    abbrev found_at : List ℕ → ℕ → ℕ
-    found_at ws n = interned_index (hit ws r.region.from r.region.width (take r.region.key entry)) n
+    abbrev key : List ℕ
+    key = take e.key entry
 
-    within : (n : ℕ) → n < r.region.room → r.region.from + r.region.width * n + length entry ≤ end_of tree i
-    within n l = let e = D.size in let w = mul-le-mul_left r.region.width l in let m = mul-suc r.region.width n in omega arith
+    within : (n : ℕ) → n < e.room → e.from + e.width * n + length entry ≤ end_of tree i
+    within n l = let s = D.size in let w = mul-le-mul_left e.width l in let m = mul-suc e.width n in omega arith
 
     back : (A : Abs) → Fits (on_state (state_of tree i v) A) → Fits A
     back A f = shorter tree i A _ (length_intern r.pool.key r.pool.dec v (r.pool.get A.state.pools)) f
 
-    index : (c : Counts) (A : Abs) (h : Held) → Content tree c h A → found_at h.1 (r.region.count h.0.pools) ≡ index_of tree i v A.state
+    index : (c : Counts) (A : Abs) (h : Held) → Content tree c h A → interned_index (hit h.1 e.from e.width key) (e.count h.0.pools) ≡ index_of tree i v A.state
     index c A h x =
-        table_slot r.pool.key r.pool.dec v r.region.width r.At r.region.from h.1 (r.region.count h.0.pools) (r.pool.get A.state.pools) (hit h.1 r.region.from r.region.width (take r.region.key entry))
-        (λ j y q. hit_decides h.1 r.region.from r.region.width (take r.region.key entry) j (r.pool.dec (r.pool.key y) (r.pool.key v)) (λ s. D.found h.1 _ y q s) (λ e. D.stands h.1 _ y q e))
+        table_slot r.pool.key r.pool.dec v e.width r.At e.from h.1 (e.count h.0.pools) (r.pool.get A.state.pools) (hit h.1 e.from e.width key)
+        (λ j y q. hit_decides h.1 e.from e.width key j (r.pool.dec (r.pool.key y) (r.pool.key v)) (λ s. D.found h.1 _ y q s) (λ k. D.stands h.1 _ y q k))
         (pool_held tree h.1 h.0.pools A.state.pools x.tables.pools_held i)
 
     -- interning the entry in the words is interning it in the list
-    pub enters : Enters tree (state_of tree i v) (index_of tree i v) (interned r.region entry)
+    pub enters : Enters tree (state_of tree i v) (index_of tree i v) (interned e entry)
     enters = record {
       back = back;
       index = λ c A h f x. index c A h x;
       keep = λ c A h f x.
-          let n = r.region.count h.0.pools in
-          let k = found_at h.1 n in
-          let at = r.region.from + r.region.width * n in
-          let e = x.enough in
-          changed tree i c A h _ _ _ (back A f) x
-          (interned_apart k n r.region.room h.1 at entry r.region.from (end_of tree i) (omega arith) (within n))
-          (table_interned r.pool.key r.pool.dec v r.region.width r.At r.region.from (entries tree i) entry D.stored k n r.region.room h.1 at (r.pool.get A.state.pools) (index c A h x) refl
-          (λ l. let w = within n l in let b = (pool_inside tree i).1 in omega arith) (size A _ f) (pool_held tree h.1 h.0.pools A.state.pools x.tables.pools_held i));
+          let n = e.count h.0.pools in
+          let k = interned_index (hit h.1 e.from e.width key) n in
+          let at = e.from + e.width * n in
+          let t = pool_held tree h.1 h.0.pools A.state.pools x.tables.pools_held i in
+          let b = (pool_inside tree i).1 in
+          let s = x.enough in
+          changed c A h _ _ _ (back A f) x (interned_apart k n e.room h.1 at entry e.from (end_of tree i) (omega arith) (within n))
+          (table_interned r.pool.key r.pool.dec v e.width r.At e.from (entries tree i) entry D.stored k n e.room h.1 at (r.pool.get A.state.pools)
+          (index c A h x) refl (λ l. let w = within n l in omega arith) (size A _ f) t);
     }
 
 -- ---- names, slots of temps and posts
@@ -169,37 +171,45 @@ content_flags : (tree : List ℕ) (c : Counts) (A : Abs) (h : Held) → Content 
 unfolding flagged sets
 content_flags tree c A h x = search rules
 
-module _ (tree : List ℕ) where
-  abbrev flagged_name : NameRef → Held → Held
-  flagged_name r h = (flagged USES_TEMPS (B.name r h).0.state, (B.name r h).1)
+module _ (tree : List ℕ) (r : NameRef) (g : TextOf tree r) where
+  abbrev name_index : State → ℕ
+  name_index = index_of tree names (named tree r)
 
-  abbrev temp_state : Name → State → State
-  temp_state v s = state_of tree temps (index_of tree names v (uses_temps s)) (state_of tree names v (uses_temps s))
+  -- with the name and the flag, before the slot
+  abbrev named_state : State → State
+  named_state s = state_of tree names (named tree r) (uses_temps s)
 
-  abbrev temp_index : Name → State → ℕ
-  temp_index v s = index_of tree temps (index_of tree names v (uses_temps s)) (state_of tree names v (uses_temps s))
+  abbrev temp_state : State → State
+  temp_state s = state_of tree temps (name_index s) (named_state s)
 
-  temp_enters : (r : NameRef) → TextOf tree r → Enters tree (temp_state (named tree r)) (temp_index (named tree r)) (B.temp r)
+  abbrev temp_index : State → ℕ
+  temp_index s = index_of tree temps (name_index s) (named_state s)
+
+  abbrev with_name_held : Held → Held
+  with_name_held h = (flagged USES_TEMPS (B.name r h).0.state, (B.name r h).1)
+
+  temp_enters : Enters tree temp_state temp_index (B.temp r)
   unfolding B.temp
-  temp_enters r g =
-      let v = named tree r in
-      let m = name_enters tree r g in
-      record {
-        back = λ A f. m.back A ((s A).back (on_state uses_temps (on_state (state_of tree names v) A)) f);
-        index = λ c A h f x.
-            let B2 = on_state uses_temps (on_state (state_of tree names v) A) in
-            let f1 = (s A).back B2 f in
-            subst (λ (j : ℕ). (B.slot j (flagged_name r h)).0.index ≡ temp_index v A.state) (sym (m.index c A h f1 x))
-            ((s A).index c B2 (flagged_name r h) f (content_flags tree c (on_state (state_of tree names v) A) ((B.name r h).0.state, (B.name r h).1) (m.keep c A h f1 x)));
-        keep = λ c A h f x.
-            let B2 = on_state uses_temps (on_state (state_of tree names v) A) in
-            let f1 = (s A).back B2 f in
-            subst (λ (j : ℕ). Content tree c ((B.slot j (flagged_name r h)).0.state, (B.slot j (flagged_name r h)).1) (on_state (temp_state v) A)) (sym (m.index c A h f1 x))
-            ((s A).keep c B2 (flagged_name r h) f (content_flags tree c (on_state (state_of tree names v) A) ((B.name r h).0.state, (B.name r h).1) (m.keep c A h f1 x)));
-      }
+  temp_enters = record {
+    back = λ A f. m.back A ((slot_of A).back (on_state named_state A) f);
+    index = λ c A h f x.
+        let b = (slot_of A).back (on_state named_state A) f in
+        subst (λ (j : ℕ). (B.slot j (with_name_held h)).0.index ≡ temp_index A.state) (sym (m.index c A h b x))
+        ((slot_of A).index c (on_state named_state A) (with_name_held h) f (named_held c A h b x));
+    keep = λ c A h f x.
+        let b = (slot_of A).back (on_state named_state A) f in
+        subst (λ (j : ℕ). Content tree c ((B.slot j (with_name_held h)).0.state, (B.slot j (with_name_held h)).1) (on_state temp_state A)) (sym (m.index c A h b x))
+        ((slot_of A).keep c (on_state named_state A) (with_name_held h) f (named_held c A h b x));
+  }
     where
-      s : (A : Abs) → Enters tree (state_of tree temps (index_of tree names (named tree r) A.state)) (index_of tree temps (index_of tree names (named tree r) A.state)) (B.slot (index_of tree names (named tree r) A.state))
-      s A = slot_enters tree (index_of tree names (named tree r) A.state)
+      m : Enters tree (state_of tree names (named tree r)) name_index (B.name r)
+      m = name_enters tree r g
+
+      slot_of : (A : Abs) → Enters tree (state_of tree temps (name_index A.state)) (index_of tree temps (name_index A.state)) (B.slot (name_index A.state))
+      slot_of A = slot_enters tree (name_index A.state)
+
+      named_held : (c : Counts) (A : Abs) (h : Held) → Fits (on_state named_state A) → Content tree c h A → Content tree c (with_name_held h) (on_state named_state A)
+      named_held c A h f x = content_flags tree c (on_state (state_of tree names (named tree r)) A) ((B.name r h).0.state, (B.name r h).1) (m.keep c A h f x)
 
 -- ---- lowerings that go on with the index
 

@@ -152,23 +152,25 @@ module _ (tree : List ℕ) where
   abbrev pub end_of : Pooled → ℕ
   end_of i = let r = (row tree i).region in r.from + r.width * r.room
 
+  -- the words two workspaces differ in are words of the region
+  abbrev pub OnlyIn : Pooled → List ℕ → List ℕ → Type 0
+  OnlyIn i ws vs = Apart ws vs (row tree i).region.from (end_of i)
+
   pub pool_inside : (i : Pooled) → (CONSTS ≤ (row tree i).region.from) × (end_of i ≤ STORES)
   pool_inside consts = (omega arith, omega arith)
   pool_inside i = (omega arith, omega arith)
 
   pub pool_fits : (i : Pooled) (A : Abs) → Fits A → length ((row tree i).pool.get A.state.pools) ≤ (row tree i).region.room
-  pool_fits consts A f = f.consts
-  pool_fits posts A f = f.posts
-  pool_fits hashes A f = f.hashes
-  pool_fits names A f = f.names
-  pool_fits temps A f = f.temps
-  pool_fits members A f = f.members
+  pool_fits consts A f = omega arith
+  pool_fits i A f = omega arith
 
-  pub pool_keep : (ws vs : List ℕ) (A : Abs) → Fits A → (i : Pooled) → Agree ws vs (row tree i).region.from (end_of i) → (n : N.Pools) → PoolHeld tree ws n A.state.pools i → PoolHeld tree vs n A.state.pools i
+  pub pool_keep : (ws vs : List ℕ) (A : Abs) → Fits A → (i : Pooled) → Agree ws vs (row tree i).region.from (end_of i)
+      → (n : N.Pools) → PoolHeld tree ws n A.state.pools i → PoolHeld tree vs n A.state.pools i
   pool_keep ws vs A f i g n t =
       let r = row tree i in
-      let b = mul-le-mul_left r.region.width (pool_fits i A f) in
-      table_keep r.region.width r.At (entries i) ws vs r.region.from (r.region.count n) (r.pool.get A.state.pools) (end_of i) (omega arith) g t
+      let e = r.region in
+      let b = mul-le-mul_left e.width (pool_fits i A f) in
+      table_keep e.width r.At (entries i) ws vs e.from (e.count n) (r.pool.get A.state.pools) (end_of i) (omega arith) g t
 
 -- ---- groups of tables whose words are as they were
 

@@ -183,9 +183,13 @@ row tree names = record { Entry = Name; Key = ℕ; region = B.name_pool; pool = 
 row tree temps = record { Entry = ℕ; Key = ℕ; region = B.slot_pool; pool = P.slot_pool; At = WordAt }
 row tree members = record { Entry = MemberRead; Key = ℕ × ℕ; region = B.member_pool; pool = P.member_pool; At = MemberAt tree }
 
+-- n entries of a pool's region are its list
+abbrev pub TableOf : (tree ws : List ℕ) (i : Pooled) → ℕ → List (row tree i).Entry → Type 0
+TableOf tree ws i n xs = let r = row tree i in Table r.region.width (r.At ws) r.region.from n xs
+
 module _ (tree ws : List ℕ) (n : N.Pools) (Q : Pools) where
   abbrev pub PoolHeld : Pooled → Type 0
-  PoolHeld i = let r = row tree i in Table r.region.width (r.At ws) r.region.from (r.region.count n) (r.pool.get Q)
+  PoolHeld i = TableOf tree ws i ((row tree i).region.count n) ((row tree i).pool.get Q)
 
   -- a product, so that a step that changes none of the lists leaves it as it is
   abbrev pub PoolsHeld : Type 0
