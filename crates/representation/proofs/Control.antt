@@ -105,10 +105,10 @@ module _ (tree : List ℕ) (E : ℕ → Bool → Step) (C : ℕ → NameRef → 
     unfolding R.for_each
     each_rule n sound short = flagged_does (λ f. S.not_float_only (S.sets HAS_LOOPS f)) (λ s. Y.not_float_only (Y.flagged 64 s)) (not_sets_move 64)
         (three_rel tree E C Z c _ (failing_does Failed) _ xs (count_at tree p) (first_at tree p) k
-        (λ a b e m ca cb ce. subst (λ (f : Lowering). Does tree f c (R.with_variable tree (first_at tree p) (W.failed Failed) λ i. R.each tree E C Z p (L.each_next i) l)) (sym (first_variable n (count_at tree p) (omega arith) (sound (omega arith)) (λ i. b.expr l ⨾ eached i (e.expr true) ⨾ constant (fold (L.post_bits tree p) 0)))) (variable_does n (sound (omega arith)) short cb ce)))
-      where
-        first_variable : (n m : ℕ) → 1 ≤ m → Sound n tree (first_at tree p) → (f : N.EachNext → Lowering) → D.variable (trees (tree_at n tree) tree m (first_at tree p)) f ≡ D.each_of (payload_at tree (first_at tree p)) f
-        first_variable n m h s f = variable_is tree (first_at tree p) n m h s f
+        (λ a b e m ca cb ce.
+        subst (λ (f : Lowering). Does tree f c (R.with_variable tree (first_at tree p) (W.failed Failed) λ i. R.each tree E C Z p (L.each_next i) l))
+        (sym (variable_is tree (first_at tree p) n (count_at tree p) (omega arith) (sound (omega arith)) (λ i. b.expr l ⨾ eached i (e.expr true) ⨾ constant (fold (L.post_bits tree p) 0))))
+        (variable_does n (sound (omega arith)) short cb ce)))
 
     -- the value: the second child, or the node's constant
     value_does : (ys : List Lowerings) (j : ℕ) → count_at tree p ≡ suc j → Children tree E C Z ys j (next_at tree (first_at tree p)) → Does tree (P.one ys (constant (P.const_of (payload_at tree p))) λ b. b.expr l) c (R.value tree E C Z p (first_at tree p) l)
