@@ -11,7 +11,8 @@ use Rattle.program.specs.Opcodes as O
 use Rattle.program.specs.Image.{bit}
 use Rattle.payload.specs.declared.NameRef.{NameRef}
 use Rattle.program.specs.declared.TheConstants.Depths.{NOTHING_OPEN}
-use Rattle.workspace.specs.declared.counts.Pools.{Pools}
+use Rattle.workspace.specs.declared.counts.TheConstants.Pools as Pools
+use Rattle.workspace.specs.declared.counts.TheConstants.Listed as Listed
 use Rattle.lowering.specs.Held.{State, Held}
 use Rattle.builder.specs.Steps.{still, failed, pushed}
 use Rattle.lowering.specs.Pools.{Found, after, constant}
@@ -339,14 +340,11 @@ module _ (t : List ℕ) where
   abbrev pub under : {X : Type 0} → ℕ → ((ℕ → Bool → Step) → (ℕ → NameRef → Bool → Step) → (ℕ → Bool → Step) → X) → X
   under n f = f (expr t n) (chain t n) (returned t n)
 
-abbrev pub no_pools : Pools
-no_pools = record { consts = 0; posts = 0; hashes = 0; names = 0; temps = 0; members = 0 }
-
 -- nothing is lowered yet
 abbrev pub start : State
 start = record {
-  pools = no_pools;
-  listed = record { stores = 0; paths = 0; calls = 0; arguments = 0 };
+  pools = Pools.EMPTY;
+  listed = Listed.EMPTY;
   code = record { top = 0; base = 0; finished = 0; waiting = false };
   depth = record { now = NOTHING_OPEN; max = NOTHING_OPEN };
   marks = record { bits = Flag.FLOAT_ONLY; float_loop = true };

@@ -72,32 +72,13 @@ pub fn lower(tree: &[u8], ws: &mut [u32]) -> State<Refusal>
     b.state
 }
 
-// Nothing is in use.
-fn no_pools() -> Pools
-    ensures { result ≡ R.no_pools }
-{
-    Pools {
-        consts: 0,
-        posts: 0,
-        hashes: 0,
-        names: 0,
-        temps: 0,
-        members: 0,
-    }
-}
-
 // Nothing is lowered yet.
 fn start() -> State<Refusal>
     ensures { result ≡ R.start }
 {
     State {
-        pools: no_pools(),
-        listed: Listed {
-            stores: 0,
-            paths: 0,
-            calls: 0,
-            arguments: 0,
-        },
+        pools: Pools::EMPTY,
+        listed: Listed::EMPTY,
         code: OpenCode {
             top: 0,
             base: 0,

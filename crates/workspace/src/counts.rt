@@ -11,6 +11,17 @@ pub struct Pools {
     pub members: u16,
 }
 
+impl Pools {
+    pub const EMPTY: Pools = Pools {
+        consts: 0,
+        posts: 0,
+        hashes: 0,
+        names: 0,
+        temps: 0,
+        members: 0,
+    };
+}
+
 // Of what is added and never merged.
 #[derive(Clone, Copy, Drop)]
 pub struct Listed {
@@ -18,4 +29,13 @@ pub struct Listed {
     pub paths: u16,
     pub calls: u16,
     pub arguments: u16,
+}
+
+impl Listed {
+    pub const EMPTY: Listed = Listed {
+        stores: 0,
+        paths: 0,
+        calls: 0,
+        arguments: 0,
+    };
 }
