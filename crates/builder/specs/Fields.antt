@@ -1,4 +1,4 @@
--- The builder's state, where one number of the code or of the flags is set. Definitions only.
+-- The builder's state, where one field of its code is set. Definitions only.
 use Rattle.std.specs.Prelude.{Bool, ℕ}
 use Rattle.builder.specs.declared.State.{State}
 
