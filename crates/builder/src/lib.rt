@@ -9,7 +9,7 @@ ghost use Rattle.builder.specs.Steps.{emitted, flushed, put, put_const, still, p
 
 use code::segment;
 use depth::Depth;
-use program::ConstIdx;
+use program::{ConstIdx, Marks};
 use program::opcodes::Opcode;
 use workspace::counts::{Listed, Pools};
 
@@ -27,13 +27,6 @@ pub struct OpenCode {
     pub base: u16,
     pub finished: u16,
     pub waiting: bool,
-}
-
-// The program's flags, as bits, and whether it starts on the float loop.
-#[derive(Clone, Copy, Drop)]
-pub struct Marks {
-    pub bits: u16,
-    pub float_loop: bool,
 }
 
 // How much of each region is in use, the code, the depth, the flags, and the first refusal, of the caller's type R.

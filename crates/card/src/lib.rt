@@ -11,9 +11,8 @@ ghost use Rattle.card.specs.Image.{image_of, laid, answer_of};
 ghost use Rattle.card.specs.Lowered.{of_parts};
 
 use answers::refusals::Refusal;
-use builder::Marks;
 use fields::Writer;
-use program::Depths;
+use program::{Depths, Marks};
 use workspace::counts::{Listed, Pools};
 
 // How many entries each region holds, and the closing fields; `posts` without slot 0.

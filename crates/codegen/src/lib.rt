@@ -9,9 +9,9 @@ ghost use Rattle.representation.specs.Sections.{final_marks, sections_of};
 ghost use Rattle.codegen.specs.Build.{shown, packed, zeros, Built, Packed, Asked};
 
 use answers::refusals::Refusal;
-use builder::{Marks, State};
+use builder::State;
 use card::Sections;
-use program::Flags;
+use program::{Flags, Marks};
 use workspace::layout;
 
 // The nine questions in order; the program image in `out` where all are answered by yes. The image's length, or the first question that is answered by no.

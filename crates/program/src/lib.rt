@@ -77,6 +77,13 @@ impl Depths {
     }
 }
 
+// A program's flags, as bits, and whether it starts on the float loop.
+#[derive(Clone, Copy, Drop)]
+pub struct Marks {
+    pub bits: u16,
+    pub float_loop: bool,
+}
+
 // A program's flags, by their bits: the card has them as one number, and several at once.
 #[derive(Drop)]
 pub struct Flags;

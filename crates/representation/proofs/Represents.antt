@@ -21,7 +21,7 @@ use Rattle.card.specs.Holds.{PostIs, HashIs, NameIs, MemberIs, StoreIs}
 use Rattle.workspace.specs.declared.counts.Pools as N
 use Rattle.workspace.specs.declared.counts.Listed.{Listed}
 use Rattle.builder.specs.declared.OpenCode.{OpenCode}
-use Rattle.builder.specs.declared.Marks.{Marks}
+use Rattle.program.specs.declared.Marks.{Marks}
 use Rattle.lowering.specs.Held.{Held}
 use Rattle.lowering.specs.Pools as B
 use Rattle.lowering.specs.Pools.{SHARED, Found}

@@ -33,7 +33,7 @@ use Rattle.semantics.proofs.Regions.{regions}
 use Rattle.semantics.proofs.Fitting.{program_fits}
 use Rattle.semantics.proofs.AcceptedTrees.{parsed_fits, parsed_short}
 use Rattle.workspace.specs.Layout.{OPEN, FINISHED, CONSTS, POSTS, HASHES, NAMES, TEMPS, MEMBERS, STORES, CALLS, ARGUMENTS}
-use Rattle.builder.specs.declared.Marks.{Marks}
+use Rattle.program.specs.declared.Marks.{Marks}
 use Rattle.card.specs.Holds.{Each, InstructionIs, MemberIs, CallIs, Holds}
 use Rattle.lowering.specs.Parts as L
 use Rattle.lowering.specs.Rules as R

@@ -3,7 +3,7 @@ use Rattle.std.specs.Prelude.{Bool, false, cond}
 use Rattle.std.specs.Int.Bits.{bit_and}
 use Rattle.program.specs.Counts.{counts_of}
 use Rattle.program.specs.Kinds.{in_float_loop, NOT_FLOAT}
-use Rattle.builder.specs.declared.Marks.{Marks}
+use Rattle.program.specs.declared.Marks.{Marks}
 use Rattle.card.specs.declared.Sections.{Sections}
 use Rattle.lowering.specs.Held.{State}
 
