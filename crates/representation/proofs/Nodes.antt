@@ -70,8 +70,16 @@ module _ (tree : List ℕ) (short : length tree ≤ 6144) (n : ℕ) (le : n ≤ 
 
   pub views : (r : Rule) → ViewsOf r
   unfolding lower_rule lower_plain R.branch R.query settings
-  views U.return = record { as_expr = λ l c. generic_does p; as_statement = λ l c. return_does tree E C Z p xs k l; as_base = λ last t l c. generic_does p }
-  views U.member = record { as_expr = λ l c. member_does' p sound short E C Z xs k l; as_statement = λ l c. member_does' p sound short E C Z xs k l; as_base = λ last t l c. chained_does p sound short E C Z xs k last t l }
+  views U.return = record {
+    as_expr = λ l c. generic_does p;
+    as_statement = λ l c. return_does tree E C Z p xs k l;
+    as_base = λ last t l c. generic_does p;
+  }
+  views U.member = record {
+    as_expr = λ l c. member_does' p sound short E C Z xs k l;
+    as_statement = λ l c. member_does' p sound short E C Z xs k l;
+    as_base = λ last t l c. chained_does p sound short E C Z xs k last t l;
+  }
   views U.entity = alike (λ l c. load_does p sound short)
   views U.pointer = alike (λ l c. pointer_does tree E C Z p xs k l)
   views (U.plain U.array) = alike (λ l c. array_does p sound short E C Z xs k l)
@@ -121,5 +129,8 @@ module _ (tree : List ℕ) (short : length tree ≤ 6144) where
   child (suc n) le q s =
       let ts = trees (tree_at n tree) tree (count_at tree q) (first_at tree q) in
       let k = children n (count_at tree q) (first_at tree q) (λ r t. child n (omega arith) r t) s.1 in
-      let w = views tree short n (omega arith) (R.expr tree n) (R.chain tree n) (R.returned tree n) q s.0 (λ l. first_sound n tree q l s) (lowers (settings tree) ts) k (still_pending (settings tree) ts) (rule_at (op_at tree q)) in
+      let w =
+      views tree short n (omega arith) (R.expr tree n) (R.chain tree n) (R.returned tree n) q s.0 (λ l. first_sound n tree q l s)
+      (lowers (settings tree) ts) k (still_pending (settings tree) ts) (rule_at (op_at tree q))
+      in
       record { expr_is = w.as_expr; statement_is = w.as_statement; base_is = w.as_base }

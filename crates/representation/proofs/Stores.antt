@@ -115,7 +115,8 @@ module _ (tree : List ℕ) (n : ℕ) (short : n ≤ LEVELS) where
   -- by the node's rule
   link_rule : (p : ℕ) → NodeSound tree p → (m : P.Path) (o : Option PathEnd) (G : Step)
       → PathIs tree (suc n) (P.as_name 6 (payload_at tree p) P.no_path (λ y. P.longer y.hash m)) o G
-      → (r : Rule) → PathIs tree (suc n) (P.link r (payload_at tree p) m) (cond (R.is_member r) o (Some (record { root = p; count = 0 }))) (λ h. cond (R.is_member r) (G h) h)
+      → (r : Rule) → PathIs tree (suc n) (P.link r (payload_at tree p) m)
+      (cond (R.is_member r) o (Some (record { root = p; count = 0 }))) (λ h. cond (R.is_member r) (G h) h)
   unfolding P.link
   link_rule p s m o G i return = root_path_lem tree (suc n) p s
   link_rule p s m o G i member = i

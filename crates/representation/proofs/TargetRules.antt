@@ -22,7 +22,9 @@ member_same (plain r) = refl
 
 module _ (tree : List ℕ) (p : ℕ) where
   by_payload : P.as_name 5 (payload_at tree p) 7 (λ n. 0) ≡ number_of_first (Q.as_name 5 (payload_ref_at tree p) (Some Failed) (λ n. None))
-  by_payload = name_always tree (λ (x : ℕ) (g : Unit {0} → Option Refusal). x ≡ number_of_first (g tt)) 5 p (λ n. 0) {d = 7} {D = λ z. Some Failed} {F = λ r z. None} refl (λ r. refl)
+  by_payload =
+      name_always tree (λ (x : ℕ) (g : Unit {0} → Option Refusal). x ≡ number_of_first (g tt)) 5 p (λ n. 0)
+      {d = 7} {D = λ z. Some Failed} {F = λ r z. None} refl (λ r. refl)
 
   by_rule : (r : Rule) → D.target_refusal r (payload_at tree p) ≡ number_of_first (R.refused_target r (payload_ref_at tree p))
   unfolding D.target_refusal R.refused_target

@@ -9,7 +9,8 @@ use Rattle.ast.proofs.rules.RuleFromU8.from.Goals as goal
 pub returns-then-place-lt53 : goal.returns-then-place-lt53
 unfolding rules
 returns-then-place-lt53 c =
-    rw c.from-place.ensures (sym (get_or-map meaning BY_NUMBER c.args.number Return (plain refused) (omega (arith, c.from-place.ensures, c.if-place-lt53.true))))
+    rw c.from-place.ensures
+    (sym (get_or-map meaning BY_NUMBER c.args.number Return (plain refused) (omega (arith, c.from-place.ensures, c.if-place-lt53.true))))
 
 pub returns : goal.returns
 unfolding rules
