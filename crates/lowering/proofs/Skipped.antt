@@ -1,10 +1,11 @@
--- Entries passed by eights: none of them is a hit. Assumes nothing.
+-- Entries passed by steps: none of them is a hit. Assumes nothing.
 use mathlib.Core.Path.{◌≡◌}
 use mathlib.Core.Bool.{Bool, true, false}
 use mathlib.Core.List.{List}
-use Prim.Native.Nat.{ℕ, ◌+◌, ◌-◌, ◌*◌, ◌<◌}
+use Prim.Native.Nat.{ℕ, ◌+◌, ◌-◌, ◌*◌, ◌/◌, ◌≤◌, ◌<◌}
 use native.Mathlib.Decide.{dec_lt}
-use native.Mathlib.Nat.{mul-add}
+use native.Mathlib.Nat.{mul-add, mul-le-mul_left}
+use Rattle.std.proofs.Math.Nat.{mul-div-le}
 use native.Mathlib.Omega.{arith}
 use lib.ListN.{length, get_or, take}
 use Rattle.lowering.specs.Search.{hit, Without, NoneHas}
@@ -29,3 +30,10 @@ key_missed W from width size words j i m l o f k a b =
     let d : i + (k - i) ≡ k = omega arith in
     let e : from + width * i + j + width * (k - i) ≡ from + width * (i + (k - i)) + j = omega (arith, mul-add width i (k - i)) in
     stands_false W (from + width * k) size words j l o (rw d at (rw e at (f (k - i) (omega arith))))
+
+-- a step of entries before n lies where n entries do
+pub step_within : (from width step k n size : ℕ) → k < n / step → from + width * n ≤ size → from + width * (step * k + step) ≤ size
+step_within from width step k n size l h =
+    let next : k + 1 ≤ n / step = omega arith in
+    let all : step * k + step ≤ n = omega (arith, mul-le-mul_left step next, mul-div-le n step) in
+    omega (arith, mul-le-mul_left width all)

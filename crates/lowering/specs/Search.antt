@@ -27,6 +27,6 @@ NoneHas test i n = (k : ℕ) → i ≤ k → k < n → test k ≡ false
 abbrev pub Without : List ℕ → ℕ → ℕ → ℕ → ℕ → Type 0
 Without W at stride key n = (k : ℕ) → k < n → eqb (get_or W (at + stride * k) 0) key ≡ false
 
--- none of eight, if so answered
-abbrev pub NoneIs : List ℕ → ℕ → ℕ → ℕ → Bool → Type 0
-NoneIs W at stride key r = r ≡ true → Without W at stride key 8
+-- none of n, if so answered
+abbrev pub NoneIs : List ℕ → ℕ → ℕ → ℕ → ℕ → Bool → Type 0
+NoneIs W at stride key n r = r ≡ true → Without W at stride key n

@@ -1,5 +1,5 @@
 // Entries in regions of a workspace of words: found by key, appended, interned. Past the end a word reads 0, and nothing is written.
-ghost use Rattle.std.specs.Prelude.{◌≡◌, true, ◌+◌, ◌*◌, ◌^◌, ◌<◌, ◌≤◌, take};
+ghost use Rattle.std.specs.Prelude.{◌≡◌, true, ◌+◌, ◌-◌, ◌*◌, ◌<◌, ◌≤◌, length, take};
 ghost use Rattle.std.proofs.lemmas.List.Edits.{sets};
 ghost use Rattle.lowering.specs.Search.{hit, Finds, NoneHas, NoneIs};
 ghost use Rattle.lowering.specs.Regions.{Appends, Interns};
@@ -7,18 +7,15 @@ ghost use Rattle.lowering.specs.Regions.{Appends, Interns};
 use crate::regions::Region;
 use workspace::words::{put_word, word};
 
-// Whether eight words from a place on, `WIDTH` apart, are there, and none of them is the key. All eight are compared, with no branch between them: a branch
-// at each is slower, by a third on constants.
-fn none_is<const WIDTH: usize>(ws: &[u32], at: usize, key: u32) -> bool
-    requires { (at < 2 ^ 22) × (WIDTH < 8) }
-    ensures { NoneIs ws.now at WIDTH key result }
+// Whether none of `STEP` words from a place on, `WIDTH` apart, is the key. All are compared, with no branch between them: a branch at each is slower, by a
+// third on constants.
+fn none_is<const WIDTH: usize, const STEP: u16>(ws: &[u32], at: usize, key: u32) -> bool
+    requires { at + WIDTH * (STEP - 1) < length ws.now }
+    ensures { NoneIs ws.now at WIDTH key STEP result }
 {
-    if ws.len() <= at + WIDTH * 7 {
-        return false;
-    }
     let mut some = false;
-    for i in 0..8 {
-        some |= ws[at + WIDTH * i] == key;
+    for i in 0..STEP {
+        some |= ws[at + WIDTH * usize::from(i)] == key;
     }
     !some
 }
@@ -46,38 +43,44 @@ impl<const WIDTH: usize, const KEY: usize> Region<WIDTH, KEY> {
         true
     }
 
-    // Whether eight entries are there, and one word of the key is in none of them.
-    fn none_has(&self, ws: &[u32], i: u16, words: &[u32; WIDTH]) -> bool
-        ensures { result ≡ true → NoneHas (hit ws.now self.now.from WIDTH (take KEY words.now)) i (i + 8) }
+    // Whether one word of the key is in none of `STEP` entries.
+    fn none_has<const STEP: u16>(&self, ws: &[u32], i: u16, words: &[u32; WIDTH]) -> bool
+        requires { (0 < STEP) × (self.now.from + WIDTH * (i + STEP) ≤ length ws.now) }
+        ensures { result ≡ true → NoneHas (hit ws.now self.now.from WIDTH (take KEY words.now)) i (i + STEP) }
     {
         let at = self.place(i);
         for j in 0..KEY {
-            if none_is::<WIDTH>(ws, at + j, words[j]) {
+            if none_is::<WIDTH, STEP>(ws, at + j, words[j]) {
                 return true;
             }
         }
         false
     }
 
-    // How many of `n` entries are passed, eight at a time, with none of that key among them. A `for`: tried `find` over the eights, by which constants are
-    // 7 % slower.
-    fn skip(&self, ws: &[u32], n: u16, words: &[u32; WIDTH]) -> u16
-        ensures { (result ≤ n) × NoneHas (hit ws.now self.now.from WIDTH (take KEY words.now)) 0 result }
+    // How many of `n` entries are passed, `STEP` at a time and from step `first` on, with none of that key among them. A `for`: tried `find` over the steps,
+    // by which constants are 7 % slower.
+    fn skip<const STEP: u16>(&self, ws: &[u32], first: u16, n: u16, words: &[u32; WIDTH]) -> u16
+        requires { 0 < STEP }
+        ensures { (result ≤ n) × NoneHas (hit ws.now self.now.from WIDTH (take KEY words.now)) (STEP * first) result }
     {
-        for eight in 0..n / 8 {
-            if !self.none_has(ws, 8 * eight, words) {
-                return 8 * eight;
+        if ws.len() < self.place(n) {
+            return 0;
+        }
+        for k in first..n / STEP {
+            if !self.none_has::<STEP>(ws, STEP * k, words) {
+                return STEP * k;
             }
         }
-        8 * (n / 8)
+        STEP * (n / STEP)
     }
 
-    // The number of the first of `n` entries that has the key of the one given, as `seek` has it; none has the key where `seek` comes to `n`. A `for`:
-    // tried `find` over the range, by which constants are 1.6 % slower.
+    // The number of the first of `n` entries that has the key of the one given, as `seek` has it; none has the key where `seek` comes to `n`. Entries are
+    // passed by 64, then by eight: by eight alone constants are 12 % slower. A `for`: tried `find` over the range, by which constants are 1.6 % slower.
     fn find(&self, ws: &[u32], n: u16, words: &[u32; WIDTH]) -> Option<u16>
         ensures { Finds (hit ws.now self.now.from WIDTH (take KEY words.now)) n result }
     {
-        for i in self.skip(ws, n, words)..n {
+        let far = self.skip::<64>(ws, 0, n, words);
+        for i in self.skip::<8>(ws, far / 8, n, words)..n {
             if self.has_key(ws, i, words) {
                 return Some(i);
             }
