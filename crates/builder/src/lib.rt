@@ -9,8 +9,8 @@ ghost use Rattle.builder.specs.Steps.{emitted, flushed, put, put_const, still, p
 
 use code::segment;
 use depth::Depth;
-use program::{ConstIdx, Marks};
 use program::opcodes::Opcode;
+use program::{ConstIdx, Marks};
 use workspace::counts::{Listed, Pools};
 
 // The first words of Push, PushConst and Const. By `as`: a constant can call no function.
