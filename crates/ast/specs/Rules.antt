@@ -17,6 +17,21 @@ pub data Rule : Type 0 where
   return member entity pointer : Rule
   plain : Plain → Rule
 
+-- a member read is a link of a member path; a Return is a statement of its own in a list
+abbrev pub is_member : Rule → Bool
+is_member return = false
+is_member member = true
+is_member entity = false
+is_member pointer = false
+is_member (plain r) = false
+
+abbrev pub is_return : Rule → Bool
+is_return return = true
+is_return member = false
+is_return entity = false
+is_return pointer = false
+is_return (plain r) = false
+
 -- 01, The tree image: "1 Array to 51 Comma in order of first mention in `expr`"; in front the unknown codes, behind the refused ones
 unfoldable pub rules : List Rule
 rules =

@@ -17,11 +17,11 @@ use rules::Rule;
 pub fn rule(op: u8) -> Rule
     ensures { meaning result ≡ rule_at op }
 {
-    Rule::from(number(op))
+    Rule::from(rule_number(op))
 }
 
 // The number of an operator code's rule: 1 to 51, 52 for a refusal, 0 where the code is unknown. Public, and of any byte, as the table is.
-pub fn number(op: u8) -> u8
+pub fn rule_number(op: u8) -> u8
     ensures { result ≡ rule_of op }
 {
     rule_in(&rules::TABLE, op)

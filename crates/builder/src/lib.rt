@@ -10,7 +10,7 @@ ghost use Rattle.builder.specs.Steps.{emitted, flushed, put, put_const, still, p
 use code::segment;
 use depth::Depth;
 use program::opcodes::Opcode;
-use program::{ConstIdx, Marks};
+use program::{ConstIdx, Flags};
 use workspace::counts::{Listed, Pools};
 
 // The first words of Push, PushConst and Const. By `as`: a constant can call no function.
@@ -36,7 +36,7 @@ pub struct State<R> {
     pub listed: Listed,
     pub code: OpenCode,
     pub depth: Depth,
-    pub marks: Marks,
+    pub flags: Flags,
     pub refusal: Option<R>,
 }
 

@@ -3,7 +3,7 @@ use Rattle.std.specs.Prelude.{◌≡◌, List, [], ◌∷◌, ◌++◌, ℕ, ◌
 use Rattle.numeric.specs.Post.{Post, identity}
 use Rattle.ast.specs.Tree.{Name}
 use Rattle.program.specs.Instruction.{Instruction, halt}
-use Rattle.program.specs.Counts.{counts_of}
+use Rattle.program.specs.Depths.{counts_of}
 use Rattle.program.specs.Program.{MemberEntry, StoreRoot, root_var, root_temp, root_other, MemberStore, QueryCall, Program}
 use Rattle.program.specs.Image.{word_of, VAR_ROOT, TEMP_ROOT, OTHER_ROOT}
 use Rattle.program.specs.Fits.{root_index}
@@ -102,5 +102,5 @@ pub record Holds (tree ws : List ℕ) (c : Sections) (P : Program) : Type 0 wher
   pub calls_count : length P.calls ≡ c.listed.calls
   pub calls : Each (record { index = 0; impl = 0; starts = [] }) (λ k q. CallIs ws c.code (CALLS + 4 * k) q) P.calls
   pub depths : counts_of c.depths ≡ P.depths
-  pub flags : c.marks.bits ≡ P.flags
-  pub float_loop : c.marks.float_loop ≡ P.float_loop
+  pub flags : c.flags.bits ≡ P.flags
+  pub float_loop : c.flags.float_loop ≡ P.float_loop

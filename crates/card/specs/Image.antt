@@ -6,7 +6,8 @@ use Rattle.wire.specs.Bytes.{be8, be}
 use Rattle.numeric.specs.Post.{identity}
 use Rattle.program.specs.Image.{bit}
 use Rattle.program.specs.Targets.{shift_of}
-use Rattle.program.specs.Counts.{counts_of, numbers}
+use Rattle.program.specs.Counts.{numbers}
+use Rattle.program.specs.Depths.{counts_of}
 use Rattle.workspace.specs.Layout.{OPEN, FINISHED, CONSTS, POSTS, HASHES, NAMES, TEMPS, MEMBERS, STORES, PATHS, CALLS, ARGUMENTS}
 use Rattle.workspace.specs.Words.{plus}
 use Rattle.card.specs.Written.{cat, joined}
@@ -112,7 +113,7 @@ calls_section ws base n = be 4 n [] ++ cat (call_entry ws base) n
 
 -- 01, The program image: "Then stack, loops, handlers (2 each), flags (2), float_loop (1)."
 unfoldable pub closing_bytes : Sections → List ℕ
-closing_bytes c = joined (map (λ n. be 2 n []) (numbers (counts_of c.depths))) (be 2 c.marks.bits [] ++ be 1 (bit c.marks.float_loop) [])
+closing_bytes c = joined (map (λ n. be 2 n []) (numbers (counts_of c.depths))) (be 2 c.flags.bits [] ++ be 1 (bit c.flags.float_loop) [])
 
 -- the nine sections, code to calls
 unfoldable pub sections_of : List ℕ → List ℕ → Sections → List (List ℕ)

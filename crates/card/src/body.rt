@@ -81,7 +81,11 @@ impl Writer<'_> {
         self.all(&hashes, 2 * usize::from(n));
     }
 
-    #[tactic(auto, using(crate::proofs::Join::writing), unfolding(crate::specs::Image::closing_bytes, crate::specs::Written::joined, program::specs::Image::bit))]
+    #[tactic(
+        auto,
+        using(crate::proofs::Join::writing),
+        unfolding(crate::specs::Image::closing_bytes, crate::specs::Written::joined, program::specs::Image::bit)
+    )]
     fn closing(&mut self, c: Sections)
         requires { Room self.old CLOSING }
         ensures { Puts self.old self.new (closing_bytes c) CLOSING }
@@ -89,8 +93,8 @@ impl Writer<'_> {
         self.put(c.depths.stack);
         self.put(c.depths.loops);
         self.put(c.depths.handlers);
-        self.put(c.marks.bits);
-        self.put(u8::from(c.marks.float_loop));
+        self.put(c.flags.bits);
+        self.put(u8::from(c.flags.float_loop));
     }
 }
 

@@ -12,7 +12,7 @@ ghost use Rattle.card.specs.Lowered.{of_parts};
 
 use answers::refusals::Refusal;
 use fields::Writer;
-use program::{Depths, Marks};
+use program::{Depths, Flags};
 use workspace::counts::{Listed, Pools};
 
 // How many entries each region holds, and the closing fields; `posts` without slot 0.
@@ -23,7 +23,7 @@ pub struct Sections {
     pub pools: Pools,
     pub listed: Listed,
     pub depths: Depths,
-    pub marks: Marks,
+    pub flags: Flags,
 }
 
 // What is written: the tree image, for its texts, the lent workspace, and how much of it.

@@ -1,17 +1,15 @@
 // The generator: a tree image to its program image, over a lent workspace.
 #![tactic(auto)]
 
-ghost use Rattle.std.specs.Prelude.{◌≡◌, cond};
-ghost use Rattle.std.specs.Int.Bits.{bit_and};
+ghost use Rattle.std.specs.Prelude.{◌≡◌};
 ghost use Rattle.ast.specs.Questions.{questions};
-ghost use Rattle.program.specs.Kinds.{NOT_FLOAT};
-ghost use Rattle.representation.specs.Sections.{final_marks, sections_of};
+ghost use Rattle.representation.specs.Sections.{closing_flags, sections_of};
 ghost use Rattle.codegen.specs.Build.{shown, packed, zeros, Built, Packed, Asked};
 
 use answers::refusals::Refusal;
 use builder::State;
 use card::Sections;
-use program::{Flags, Marks};
+use program::Flags;
 use workspace::layout;
 
 // The nine questions in order; the program image in `out` where all are answered by yes. The image's length, or the first question that is answered by no.
@@ -88,20 +86,20 @@ fn sections(s: State<Refusal>) -> Sections
         pools: s.pools,
         listed: s.listed,
         depths: most,
-        marks: final_marks(s.marks, fits),
+        flags: closing_flags(s.flags, fits),
     }
 }
 
 // A program that is too deep for the float loop is not FLOAT_ONLY, and does not start on it.
-#[tactic(auto, unfolding(representation::specs::Sections::final_marks))]
-fn final_marks(m: Marks, fits: bool) -> Marks
-    ensures { result ≡ final_marks fits m }
+#[tactic(auto, unfolding(representation::specs::Sections::closing_flags))]
+fn closing_flags(f: Flags, fits: bool) -> Flags
+    ensures { result ≡ closing_flags fits f }
 {
     if fits {
-        return m;
+        return f;
     }
-    Marks {
-        bits: m.bits & Flags::NOT_FLOAT,
+    Flags {
+        bits: f.bits & Flags::NOT_FLOAT,
         float_loop: false,
     }
 }

@@ -1,7 +1,7 @@
 -- The depth counters: what each call makes of them. Definitions only.
 use Rattle.std.specs.Prelude.{ℕ, ◌-◌, max}
 use Rattle.program.specs.declared.Depths.{Depths}
-use Rattle.workspace.specs.Counts.{sum}
+use Rattle.workspace.specs.Counts.{one_more}
 use Rattle.depth.specs.declared.Depth.{Depth}
 
 -- a counter: its number, and another number in its place
@@ -18,15 +18,12 @@ loops = record { of = λ d. d.loops; set = λ n d. record d { loops = n } }
 abbrev pub handlers : Counter
 handlers = record { of = λ d. d.handlers; set = λ n d. record d { handlers = n } }
 
--- one more, up to what 16 bits hold; k fewer, down to none
-abbrev pub raised : ℕ → ℕ
-raised n = sum n 1
-
+-- k fewer, down to none
 abbrev pub lowered : ℕ → ℕ → ℕ
 lowered n k = n - k
 
 abbrev pub entered : Counter → Depth → Depth
-entered c d = record { now = c.set (raised (c.of d.now)) d.now; max = c.set (max (c.of d.max) (raised (c.of d.now))) d.max }
+entered c d = record { now = c.set (one_more (c.of d.now)) d.now; max = c.set (max (c.of d.max) (one_more (c.of d.now))) d.max }
 
 abbrev pub left : Counter → ℕ → Depth → Depth
 left c k d = record d { now = c.set (lowered (c.of d.now) k) d.now }

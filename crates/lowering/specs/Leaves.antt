@@ -1,10 +1,10 @@
 -- What each rule without operands makes of the builder's state and the workspace's words, and what stands behind an operand. Definitions only.
-use Rattle.std.specs.Prelude.{Bool, true, false, cond, List, ℕ, zero, suc, eqb, Option, None, Some}
+use Rattle.std.specs.Prelude.{Bool, cond, List, ℕ, zero, suc, eqb, Option, None, Some}
 use Rattle.std.specs.Option.{option_map}
 use Rattle.answers.specs.declared.refusals.Refusal.{Refusal}
 use Rattle.numeric.specs.Post.{fold}
 use Rattle.ast.specs.NameKinds as Kind
-use Rattle.ast.specs.Rules.{Rule, return, member, entity, pointer, plain, rule_at}
+use Rattle.ast.specs.Rules.{Rule, return, member, entity, pointer, plain, is_member, rule_at}
 use Rattle.ast.specs.Node.{op_at, count_at, first_at}
 use Rattle.program.specs.Kinds as Flag
 use Rattle.program.specs.Opcodes as O
@@ -14,7 +14,8 @@ use Rattle.payload.specs.Payloads.{payload_ref_at}
 use Rattle.lowering.specs.Held.{State, Held}
 use Rattle.builder.specs.Steps.{still, failed}
 use Rattle.lowering.specs.Pools as B
-use Rattle.lowering.specs.Pools.{Found, after, constant}
+use Rattle.workspace.specs.Counts.{one_more}
+use Rattle.lowering.specs.Pools.{Found, constant}
 use Rattle.lowering.specs.declared.assign.PathEnd.{PathEnd}
 use Rattle.lowering.specs.declared.interning.VariableIdx.{VariableIdx}
 use Rattle.lowering.specs.declared.interning.VariableIdx.TheVariants.{Name, Temp}
@@ -60,28 +61,13 @@ abbrev pub with_path : Option PathEnd → (PathEnd → Step) → Step
 with_path None f h = failed Refusal.Failed h
 with_path (Some e) f h = f e h
 
--- a member read is a link of a member path; a Return is a statement of its own in a list
-abbrev pub is_member : Rule → Bool
-is_member return = false
-is_member member = true
-is_member entity = false
-is_member pointer = false
-is_member (plain r) = false
-
-abbrev pub is_return : Rule → Bool
-is_return return = true
-is_return member = false
-is_return entity = false
-is_return pointer = false
-is_return (plain r) = false
-
 -- why an assignment's target is refused, if it is
-unfoldable pub refused_target : Rule → Payload → Option Refusal
-refused_target return v = as_name Kind.TEMP v (Some Refusal.Failed) (λ n. None)
-refused_target member v = None
-refused_target entity v = None
-refused_target pointer v = Some Refusal.WriteToOtherMob
-refused_target (plain r) v = as_name Kind.TEMP v (Some Refusal.Failed) (λ n. None)
+unfoldable pub target_refusal : Rule → Payload → Option Refusal
+target_refusal return v = as_name Kind.TEMP v (Some Refusal.Failed) (λ n. None)
+target_refusal member v = None
+target_refusal entity v = None
+target_refusal pointer v = Some Refusal.WriteToOtherMob
+target_refusal (plain r) v = as_name Kind.TEMP v (Some Refusal.Failed) (λ n. None)
 
 module _ (t : List ℕ) where
   abbrev pub payload : ℕ → Payload
@@ -155,7 +141,7 @@ module _ (t : List ℕ) where
   -- ---- assignments: the path of a member store ends at its root
 
   abbrev pub longer : PathEnd → PathEnd
-  longer e = record { root = e.root; count = after e.count }
+  longer e = record { root = e.root; count = one_more e.count }
 
   abbrev pub is_link : ℕ → Bool
   is_link p = is_member (rule p)
@@ -203,8 +189,8 @@ module _ (t : List ℕ) where
     q ← with_post t a
     store_to n p q
 
-  abbrev pub target_refusal : ℕ → Option Refusal
-  target_refusal p = refused_target (rule p) (payload p)
+  abbrev pub target_refusal_at : ℕ → Option Refusal
+  target_refusal_at p = target_refusal (rule p) (payload p)
 
   -- ---- logic
 
@@ -223,6 +209,6 @@ module _ (t : List ℕ) where
         k ← with_hash v
         instr O.EQ_HASH o k q
 
-  -- the form of an instruction whose second operand is the constant of the payload
+  -- the form of a comparison or an equality whose second operand is the constant of the payload
   unfoldable pub constant_form : ℕ → ℕ → ℕ → ℕ → Step
   constant_form op sub p q = either (eqb op O.EQ) (equal_const sub p q) (compare_const sub p q)

@@ -6,7 +6,7 @@ use Rattle.ast.specs.Node.{scale_at, offset_at}
 use Rattle.program.specs.Opcodes as O
 use Rattle.workspace.specs.Layout.{STORES, STORES_ROOM, PATHS, PATHS_ROOM, CALLS, CALLS_ROOM, ARGUMENTS, ARGUMENTS_ROOM}
 use Rattle.workspace.specs.Words.{high, low}
-use Rattle.workspace.specs.Counts.{sum}
+use Rattle.workspace.specs.Counts.{sum, one_more}
 use Rattle.workspace.specs.declared.counts.Listed.{Listed}
 use Rattle.lowering.specs.Regions.{appended_count, appended_words}
 use Rattle.payload.specs.declared.NameRef.{NameRef}
@@ -15,7 +15,7 @@ use Rattle.lowering.specs.declared.interning.VariableIdx.{VariableIdx}
 use Rattle.lowering.specs.declared.interning.VariableIdx.TheVariants.{Name, Temp}
 use Rattle.builder.specs.Steps.{emitted, flushed, put, failed}
 use Rattle.lowering.specs.Pools as B
-use Rattle.lowering.specs.Pools.{Found, after}
+use Rattle.lowering.specs.Pools.{Found}
 use Rattle.builder.specs.Segments.{targeted, breaks_resolved, closed}
 
 abbrev pub Step : Type 0
@@ -115,7 +115,7 @@ unfoldable pub loop_closed : ℕ → Step
 loop_closed at h =
     let check = place h.0 in
     (do
-      resolve_breaks (after at) check (check + 1)
+      resolve_breaks (one_more at) check (check + 1)
       instr O.LOOP_CHECK 0 (at + 1) 0
       instr O.LOOP_END 0 0 0
       place_target at) h
@@ -125,7 +125,7 @@ unfoldable pub each_closed : ℕ → ℕ → Step
 each_closed begin next h =
     let back = place h.0 in
     (do
-      resolve_breaks (after next) next (back + 1)
+      resolve_breaks (one_more next) next (back + 1)
       instr O.JUMP 0 next 0
       place_target next
       instr O.LOOP_END 0 0 0

@@ -2,7 +2,7 @@
 use Rattle.std.specs.Prelude.{cond, List, [], ◌∷◌, ℕ, ◌+◌, ◌-◌, ◌*◌, ◌%◌, take}
 use Rattle.workspace.specs.Layout.{CONSTS, CONSTS_ROOM, POSTS, POSTS_ROOM, HASHES, HASHES_ROOM, NAMES, NAMES_ROOM, TEMPS, TEMPS_ROOM, MEMBERS, MEMBERS_ROOM}
 use Rattle.workspace.specs.Words.{high, low}
-use Rattle.workspace.specs.Counts.{sum}
+use Rattle.workspace.specs.Counts.{one_more}
 use Rattle.workspace.specs.declared.counts.Pools.{Pools}
 use Rattle.numeric.specs.Post.{Post, is_identity}
 use Rattle.program.specs.Kinds.{USES_TEMPS}
@@ -96,11 +96,8 @@ temp v h =
     slot e.0.index (flagged USES_TEMPS e.0.state, e.1)
 
 -- the identity is post 0 and is not looked up, the pool's come behind it
-abbrev pub after : ℕ → ℕ
-after index = sum index 1
-
 abbrev pub behind_identity : Found → Found
-behind_identity e = (record { state = e.0.state; index = after e.0.index }, e.1)
+behind_identity e = (record { state = e.0.state; index = one_more e.0.index }, e.1)
 
 unfoldable pub post : Post → Held → Found
 post v h = cond (is_identity v) (record { state = h.0; index = 0 }, h.1) (behind_identity (interned post_pool (v.scale ∷ v.offset ∷ []) h))

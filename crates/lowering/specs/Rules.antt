@@ -10,24 +10,22 @@ use Rattle.program.specs.Kinds as Flag
 use Rattle.program.specs.Opcodes as O
 use Rattle.program.specs.Image.{bit}
 use Rattle.payload.specs.declared.NameRef.{NameRef}
-use Rattle.program.specs.declared.TheConstants.Depths.{NOTHING_OPEN}
-use Rattle.workspace.specs.declared.counts.TheConstants.Pools as Pools
-use Rattle.workspace.specs.declared.counts.TheConstants.Listed as Listed
+use Rattle.program.specs.Depths.{nothing}
 use Rattle.lowering.specs.Held.{State, Held}
 use Rattle.builder.specs.Steps.{still, failed, pushed}
-use Rattle.lowering.specs.Pools.{Found, after, constant}
+use Rattle.workspace.specs.Counts.{one_more, no_pools, none_listed}
+use Rattle.lowering.specs.Pools.{Found, constant}
 use Rattle.builder.specs.Segments.{opened}
 use Rattle.code.specs.Segments.{BREAK, CONTINUE}
 use Rattle.lowering.specs.Payloads.{const_of, float_of}
 use Rattle.lowering.specs.Steps.{operand_entered, popped, loop_entered, loop_left, handler_entered, handler_left, flagged, not_float_only, queried}
 use Rattle.lowering.specs.Parts.{Step, ◌>>◌, ◌>>=◌, either, unless_refused, instr}
-use Rattle.lowering.specs.Parts.{post_bits, with_post, put_post, post_instr, emit_jump, with_jump, place_target, resolve_breaks, jump_out, loop_closed, each_closed}
-use Rattle.lowering.specs.Parts.{with_call, argument_closed}
-use Rattle.lowering.specs.Parts.{each_next}
+use Rattle.lowering.specs.Parts.{post_bits, with_post, put_post, post_instr, emit_jump, with_jump, place_target, resolve_breaks, jump_out}
+use Rattle.lowering.specs.Parts.{loop_closed, each_closed, with_call, argument_closed, each_next}
 unfoldable pub use Rattle.lowering.specs.Leaves.{no_variable, variable_of, name_kind, temp_kind, hashed, with_path, payload, rule, if_name, if_hash}
 unfoldable pub use Rattle.lowering.specs.Leaves.{if_math, if_query, variable, with_variable, read_flagged, load_context, load, string_literal, resource, generic}
-unfoldable pub use Rattle.lowering.specs.Leaves.{member_put, array_put, longer, is_member, is_return, is_link, path_end, path_hashes, store_as, store_under}
-unfoldable pub use Rattle.lowering.specs.Leaves.{store_member, store_to, store, refused_target, target_refusal, compare_const, equal_const, constant_form}
+unfoldable pub use Rattle.lowering.specs.Leaves.{member_put, array_put, longer, is_link, path_end, path_hashes, store_as, store_under, store_member}
+unfoldable pub use Rattle.lowering.specs.Leaves.{store_to, store, target_refusal, target_refusal_at, compare_const, equal_const, constant_form}
 
 -- ---- rules with operands: E lowers the node at a place with one level fewer, C does as the base of a member path, R a Return of a statement list
 
@@ -61,7 +59,7 @@ module _ (t : List ℕ) (E : ℕ → Bool → Step) (C : ℕ → NameRef → Boo
     still opened
     E q false
     argument_closed base waiting slot
-    arguments base waiting m (next_at t q) (after slot)) h
+    arguments base waiting m (next_at t q) (one_more slot)) h
 
   unfoldable pub called : ℕ → ℕ → ℕ → Step
   called p i m h =
@@ -137,7 +135,7 @@ module _ (t : List ℕ) (E : ℕ → Bool → Step) (C : ℕ → NameRef → Boo
     post_instr t p
 
   unfoldable pub statement : ℕ → Bool → Step
-  statement q l = either (is_return (rule t q)) (R q l) (E q l)
+  statement q l = either (U.is_return (rule t q)) (R q l) (E q l)
 
   unfoldable pub statements_from : ℕ → ℕ → ℕ → Bool → Step
   statements_from o zero q l h = constant o h
@@ -193,7 +191,7 @@ module _ (t : List ℕ) (E : ℕ → Bool → Step) (C : ℕ → NameRef → Boo
   assignment n p l =
       let a = first_at t p in
       either (eqb (count_at t p) 0) (failed Refusal.Failed)
-      (unless_refused (target_refusal t a) do
+      (unless_refused (target_refusal_at t a) do
         still (flagged Flag.HAS_ASSIGNMENT)
         value p a l
         store t n a p)
@@ -343,11 +341,11 @@ module _ (t : List ℕ) where
 -- nothing is lowered yet
 abbrev pub start : State
 start = record {
-  pools = Pools.EMPTY;
-  listed = Listed.EMPTY;
+  pools = no_pools;
+  listed = none_listed;
   code = record { top = 0; base = 0; finished = 0; waiting = false };
-  depth = record { now = NOTHING_OPEN; max = NOTHING_OPEN };
-  marks = record { bits = Flag.FLOAT_ONLY; float_loop = true };
+  depth = record { now = nothing; max = nothing };
+  flags = record { bits = Flag.FLOAT_ONLY; float_loop = true };
   refusal = None;
 }
 

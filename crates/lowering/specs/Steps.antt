@@ -25,14 +25,14 @@ unfoldable pub handler_left : State → State
 handler_left s = record s { depth = D.handler_left s.depth }
 
 unfoldable pub flagged : ℕ → State → State
-flagged bits s = record s { marks = record s.marks { bits = bit_or s.marks.bits bits } }
+flagged bits s = record s { flags = record s.flags { bits = bit_or s.flags.bits bits } }
 
 -- all bits but FLOAT_ONLY stay
 unfoldable pub not_float_only : State → State
-not_float_only s = record s { marks = record { bits = bit_and s.marks.bits NOT_FLOAT; float_loop = false } }
+not_float_only s = record s { flags = record { bits = bit_and s.flags.bits NOT_FLOAT; float_loop = false } }
 
 -- a query, alone if it has no arguments: USES_QUERIES
 unfoldable pub queried : Bool → State → State
 queried alone s =
-    let m = s.marks in
-    record s { marks = record { bits = bit_or (bit_and m.bits NOT_FLOAT) USES_QUERIES; float_loop = cond alone m.float_loop false } }
+    let m = s.flags in
+    record s { flags = record { bits = bit_or (bit_and m.bits NOT_FLOAT) USES_QUERIES; float_loop = cond alone m.float_loop false } }

@@ -164,7 +164,7 @@ fn store_member(b: &mut Builder<'_>, node: Node<'_>, levels: u16, q: PostIdx)
 
 // A store to the target, of so many levels, with a post.
 #[tactic(auto, unfolding(crate::specs::Leaves::store_to))]
-pub(crate) fn store(b: &mut Builder<'_>, node: Node<'_>, levels: u16, q: PostIdx)
+pub(crate) fn store_to(b: &mut Builder<'_>, node: Node<'_>, levels: u16, q: PostIdx)
     ensures { Did b.old b.new (R.store_to (bytes node.entry) levels node.entry.at q.0) }
 {
     match interning::variable(b, node) {
@@ -174,9 +174,9 @@ pub(crate) fn store(b: &mut Builder<'_>, node: Node<'_>, levels: u16, q: PostIdx
 }
 
 // Why the target is refused before anything is lowered, if it is.
-#[tactic(auto, unfolding(crate::specs::Leaves::refused_target, crate::specs::Payloads::as_name, crate::specs::Payloads::cases))]
+#[tactic(auto, unfolding(crate::specs::Leaves::target_refusal, crate::specs::Payloads::as_name, crate::specs::Payloads::cases))]
 pub(crate) fn target_refusal(node: Node<'_>) -> Option<Refusal>
-    ensures { result ≡ R.target_refusal (bytes node.entry) node.entry.at }
+    ensures { result ≡ R.target_refusal_at (bytes node.entry) node.entry.at }
 {
     match node.rule() {
         Rule::Member => None,

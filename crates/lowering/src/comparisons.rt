@@ -41,7 +41,7 @@ fn equal_const(b: &mut Builder<'_>, node: Node<'_>, sub: u8, q: PostIdx)
     }
 }
 
-// The form of an instruction whose second operand is the constant of the payload.
+// The form of a comparison or an equality whose second operand is the constant of the payload. Any other opcode is read as a comparison's.
 #[tactic(auto, unfolding(crate::specs::Leaves::constant_form))]
 pub(crate) fn constant_form(b: &mut Builder<'_>, node: Node<'_>, op: Opcode, sub: u8, q: PostIdx)
     ensures { Did b.old b.new (R.constant_form (bytes node.entry) (number_of op) sub node.entry.at q.0) }

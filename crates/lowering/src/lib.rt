@@ -41,7 +41,7 @@ use parts::{emit_jump, instr, place_target, post, post_instr, put_post};
 use payload::{NameRef, Payload, payload_of};
 use program::opcodes::Opcode;
 use program::subs::Divisor;
-use program::{Depths, Flags, Marks, PostIdx};
+use program::{Depths, Flags, PostIdx};
 use steps::{flag, not_float_only, pop};
 use tree::Node;
 use workspace::counts::{Listed, Pools};
@@ -89,7 +89,7 @@ fn start() -> State<Refusal>
             now: Depths::NOTHING_OPEN,
             max: Depths::NOTHING_OPEN,
         },
-        marks: Marks {
+        flags: Flags {
             bits: Flags::FLOAT_ONLY,
             float_loop: true,
         },
@@ -234,7 +234,7 @@ fn assignment(b: &mut Builder<'_>, node: Node<'_>, inside: Inside)
     flag(b, Flags::HAS_ASSIGNMENT);
     rhs(b, node, inside);
     let q = post(b, node);
-    assign::store(b, target, inside.levels, q);
+    assign::store_to(b, target, inside.levels, q);
 }
 
 // The second child, or the node's constant.
@@ -273,14 +273,14 @@ fn paired(b: &mut Builder<'_>, node: Node<'_>, op: Opcode, sub: u8, inside: Insi
     if count == 0 {
         return b.failed(Refusal::Failed);
     }
-    let q = post(b, node);
+    let p = post(b, node);
     let a = node.first();
     if count == 1 {
         expr(b, a, inside);
-        return comparisons::constant_form(b, node, op, sub, q);
+        return comparisons::constant_form(b, node, op, sub, p);
     }
     binary(b, a, inside);
-    instr(b, op, sub, 0, q);
+    instr(b, op, sub, 0, p);
     pop(b, 1);
 }
 

@@ -30,7 +30,7 @@ pub(crate) fn instr(b: &mut Builder<'_>, op: Opcode, sub: u8, a: u32, post: Post
     b.put(front(op, sub, post.0), a);
 }
 
-// The one instruction with a variable's index, the other with a temp's. The hint as that of `interning::variable`.
+// The one instruction with a variable's index, the other with a temp's. The hint has each caller take it in, as `interning::variable`.
 #[inline(always)]
 #[tactic(auto, unfolding(crate::specs::Parts::put_variable))]
 pub(crate) fn put_variable(

@@ -53,7 +53,7 @@ pub(crate) fn leave_handler(b: &mut Builder<'_>)
 pub(crate) fn flag(b: &mut Builder<'_>, bits: u16)
     ensures { Did b.old b.new (still (flagged bits)) }
 {
-    b.state.marks.bits |= bits;
+    b.state.flags.bits |= bits;
 }
 
 // The program is not FLOAT_ONLY, and does not start on the float loop.
@@ -61,8 +61,8 @@ pub(crate) fn flag(b: &mut Builder<'_>, bits: u16)
 pub(crate) fn not_float_only(b: &mut Builder<'_>)
     ensures { Did b.old b.new (still not_float_only) }
 {
-    b.state.marks.bits &= Flags::NOT_FLOAT;
-    b.state.marks.float_loop = false;
+    b.state.flags.bits &= Flags::NOT_FLOAT;
+    b.state.flags.float_loop = false;
 }
 
 // A query: without arguments it can run on the float loop.
@@ -70,8 +70,8 @@ pub(crate) fn not_float_only(b: &mut Builder<'_>)
 pub(crate) fn query_flags(b: &mut Builder<'_>, alone: bool)
     ensures { Did b.old b.new (still (queried alone)) }
 {
-    b.state.marks.bits = (b.state.marks.bits & Flags::NOT_FLOAT) | Flags::USES_QUERIES;
+    b.state.flags.bits = (b.state.flags.bits & Flags::NOT_FLOAT) | Flags::USES_QUERIES;
     if !alone {
-        b.state.marks.float_loop = false;
+        b.state.flags.float_loop = false;
     }
 }

@@ -2,10 +2,10 @@
 use mathlib.Core.Path.{◌≡◌}
 use native.Mathlib.Omega.{arith}
 use Rattle.std.specs.Prelude.{max}
-use Rattle.program.specs.Counts.{Counts, all, pairwise, Each, AtMost}
+use Rattle.program.specs.Counts.{Counts, all, pairwise, EachCount, AtMost}
 use Rattle.program.specs.Fits.{FitCounts}
 
-pub same_counts : {a b : Counts} → Each (λ m n. m ≡ n) a b → a ≡ b
+pub same_counts : {a b : Counts} → EachCount (λ m n. m ≡ n) a b → a ≡ b
 same_counts h = λ i. record { operands = h.operands i; loops = h.loops i; handlers = h.handlers i }
 
 pub transitive : {a b c : Counts} → AtMost a b → AtMost b c → AtMost a c

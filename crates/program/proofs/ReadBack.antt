@@ -11,7 +11,8 @@ use Rattle.wire.proofs.ReadBack.{Back, All, u_back, and_back, list_back}
 use Rattle.numeric.specs.Post.{Post}
 use Rattle.ast.specs.Tree.{Name}
 use Rattle.program.specs.Instruction.{const, add_last, load_var, div_guard, each_next_var, Instruction, plain, taking, reading, guard, each_next}
-use Rattle.program.specs.Program.{Counts, MemberEntry, StoreRoot, root_var, root_temp, root_other, MemberStore, QueryCall, Program}
+use Rattle.program.specs.Counts.{Counts}
+use Rattle.program.specs.Program.{MemberEntry, StoreRoot, root_var, root_temp, root_other, MemberStore, QueryCall, Program}
 use Rattle.program.specs.Image.{bit, is_set, word_of, shapes, instruction_of, put_instruction, get_instruction, put_text, get_text, put_post, get_post, put_name, get_name, put_member, get_member, put_root, root_of, get_root, put_store, get_store, put_call, get_call, put_depths, get_depths, put_closing, put_program, get_program, image, read}
 use Rattle.program.specs.Fits.{Below, Every, Listed, FitInstruction, FitPost, FitName, FitMember, root_index, FitStore, FitCall, FitCounts, FitProgram}
 

@@ -1,16 +1,11 @@
 -- Open operands, loops and handlers: one record, combined and compared count by count. Definitions only.
 use Rattle.std.specs.Prelude.{List, [], ◌∷◌, ℕ, ◌≤◌}
-use Rattle.program.specs.declared.Depths.{Depths}
 
--- open operands, loops and handlers; in a program the declared maxima stack, loops and handlers
+-- in an event what is open; in a program the declared maxima, where stack is of operands
 pub record Counts : Type 0 where
   pub operands : ℕ
   pub loops : ℕ
   pub handlers : ℕ
-
--- what the code's depths count
-abbrev pub counts_of : Depths → Counts
-counts_of d = record { operands = d.stack; loops = d.loops; handlers = d.handlers }
 
 -- in the order of a program image
 abbrev pub numbers : Counts → List ℕ
@@ -25,11 +20,11 @@ abbrev pub pairwise : (ℕ → ℕ → ℕ) → Counts → Counts → Counts
 pairwise f a b = record { operands = f a.operands b.operands; loops = f a.loops b.loops; handlers = f a.handlers b.handlers }
 
 -- R holds of each count of one and of the other
-pub record Each (R : ℕ → ℕ → Type 0) (a b : Counts) : Type 0 where
+pub record EachCount (R : ℕ → ℕ → Type 0) (a b : Counts) : Type 0 where
   pub operands : R a.operands b.operands
   pub loops : R a.loops b.loops
   pub handlers : R a.handlers b.handlers
 
 -- no more open than declared
 abbrev pub AtMost : Counts → Counts → Type 0
-AtMost now declared = Each (λ n most. n ≤ most) now declared
+AtMost now declared = EachCount (λ n most. n ≤ most) now declared

@@ -4,6 +4,7 @@ pub mod Subs
 pub mod Targets
 pub mod Instruction
 pub mod Counts
+pub mod Depths
 pub mod Program
 pub mod Image
 pub mod Fits

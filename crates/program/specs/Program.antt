@@ -3,7 +3,7 @@ use Rattle.std.specs.Prelude.{Bool, List, [], ℕ, get_or}
 use Rattle.numeric.specs.Post.{Post, identity}
 use Rattle.ast.specs.Tree.{Name}
 use Rattle.program.specs.Instruction.{Instruction, halt}
-pub use Rattle.program.specs.Counts.{Counts}
+use Rattle.program.specs.Counts.{Counts}
 
 -- 01, The program image: "members (hash 8, text, report, both with their dot)"
 pub record MemberEntry : Type 0 where

@@ -6,7 +6,7 @@ pub mod subs;
 pub mod targets;
 
 ghost use Rattle.std.specs.Prelude.{◌≡◌};
-ghost use Rattle.program.specs.Counts.{counts_of};
+ghost use Rattle.program.specs.Depths.{counts_of};
 ghost use Rattle.program.specs.Kinds.{in_float_loop};
 
 #[derive(Clone, Copy, Drop)]
@@ -77,16 +77,12 @@ impl Depths {
     }
 }
 
-// A program's flags, as bits, and whether it starts on the float loop.
+// A program's flags, and whether it starts on the float loop. By their bits: the card has them as one number, and several at once.
 #[derive(Clone, Copy, Drop)]
-pub struct Marks {
+pub struct Flags {
     pub bits: u16,
     pub float_loop: bool,
 }
-
-// A program's flags, by their bits: the card has them as one number, and several at once.
-#[derive(Drop)]
-pub struct Flags;
 
 impl Flags {
     pub const FLOAT_ONLY: u16 = 1;

@@ -17,7 +17,7 @@ fn fits_at(node: Node<'_>, size: u16, end: usize) -> bool
     requires { size ≡ size_at (bytes node) node.at }
     ensures { result ≡ fits (bytes node.entry) node.entry.at end }
 {
-    if ast::number(node.op()) == 0 || node.kind().is_err() {
+    if ast::rule_number(node.op()) == 0 || node.kind().is_err() {
         return false;
     }
     let len = node.length() as usize;

@@ -4,14 +4,14 @@ use lib.ListN.{length-map}
 use Rattle.ast.specs.Node.{next_at}
 use Rattle.program.specs.Instruction.{end}
 use Rattle.program.specs.Image.{word_of}
-use Rattle.program.specs.Program.{Counts}
+use Rattle.program.specs.Counts.{Counts}
 use Rattle.semantics.specs.State.{Item, instr, State}
 use Rattle.semantics.specs.Pieces.{Lowered, Lowering, aim, flush}
 use Rattle.semantics.specs.Lowering.{Lowerings, arguments, pasts}
 use Rattle.payload.specs.declared.NameRef.{NameRef}
 use Rattle.payload.specs.Payloads.{named}
 use Rattle.workspace.specs.Layout.{CALLS}
-use Rattle.lowering.specs.Pools.{after}
+use Rattle.workspace.specs.Counts.{one_more}
 use Rattle.builder.specs.Segments as T
 use Rattle.lowering.specs.Held.{Held}
 use Rattle.lowering.specs.Parts as L
@@ -149,11 +149,11 @@ module _ (tree : List ℕ) (E : ℕ → Bool → Step) (C : ℕ → NameRef → 
       let f1 : Fits A1 = arguments_back xs m (next_at tree q) k.1 A1 A.open_calls refl f in
       let f0 : Fits A = segment_back d A f1 in
       let sm = slot_small {h = h} {A = A} o os eo (omega arith) f0 r in
-      let ea : after slot ≡ o.first + length (grown v o).starts = let l = length-append o.starts (v ∷ []) in omega (arith, es, sm, l) in
+      let ea : one_more slot ≡ o.first + length (grown v o).starts = let l = length-append o.starts (v ∷ []) in omega (arith, es, sm, l) in
       let g = L.argument_closed base A.wait slot (E q false (still T.opened h)) in
       let r1 = argument_keep d A o os slot base h eo es (omega arith) eb f1 r in
       let A2 = mk A.outer A.code A.wait (grown v o ∷ os) s1 in
       let f2 : Fits (mk A.outer A.code A.wait (grown v o ∷ os) (arguments xs c s1).state) = let e = ap reserved_by eo in search rules in
-      let r2 = arguments_keep xs m (next_at tree q) k.1 A2 (grown v o) os (after slot) base g refl ea (omega arith) eb f2 r1 in
-      subst (λ (y : List ℕ). Content tree c (R.arguments tree E C Z base A.wait m (next_at tree q) (after slot) g) (mk A.outer A.code A.wait (record { number = o.number; first = o.first; reserved = o.reserved; starts = y } ∷ os) (arguments xs c s1).state)) (append_assoc o.starts (v ∷ []) (arguments xs c s1).offsets) r2
+      let r2 = arguments_keep xs m (next_at tree q) k.1 A2 (grown v o) os (one_more slot) base g refl ea (omega arith) eb f2 r1 in
+      subst (λ (y : List ℕ). Content tree c (R.arguments tree E C Z base A.wait m (next_at tree q) (one_more slot) g) (mk A.outer A.code A.wait (record { number = o.number; first = o.first; reserved = o.reserved; starts = y } ∷ os) (arguments xs c s1).state)) (append_assoc o.starts (v ∷ []) (arguments xs c s1).offsets) r2
   arguments_keep xs m q k A o os slot base h eo es lt eb f r = absurd k

@@ -1,7 +1,7 @@
 -- One law for each way of branching: a guard, two branches, breaks. Assumes nothing.
 use Rattle.std.proofs.Common.{rules, ◌≡◌, refl, sym, subst, ◌∙◌, Bool, true, false, cond, List, [], ◌∷◌, ◌++◌, append_assoc, ℕ, suc, arith, length-append}
 use Rattle.program.specs.Instruction.{Instruction, Guard, guard, plain, const, push_const, halt}
-use Rattle.program.specs.Program.{Counts}
+use Rattle.program.specs.Counts.{Counts}
 use Rattle.program.specs.Image.{word_of, Word, word}
 use Rattle.semantics.specs.Positions.{past}
 use Rattle.semantics.proofs.Positions.{past_append}

@@ -2,7 +2,7 @@
 use Rattle.std.proofs.Common.{min, rules, ◌≡◌, refl, sym, ap, subst, ◌∙◌, Bool, cond, List, [], ◌∷◌, ◌++◌, ℕ, zero, suc, ◌+◌, ◌*◌, ◌≤◌, ◌<◌, arith, length, get_or, set, length-append, length-set, get_or-set_same, get_or-set_other, ltb, lt-ltb}
 use mathlib.Core.Option.{none}
 use lib.Seq.{sets}
-use Rattle.program.specs.Program.{Counts}
+use Rattle.program.specs.Counts.{Counts}
 use Rattle.semantics.proofs.Costs.{weigh}
 use Rattle.semantics.proofs.Sizes.{weigh_length}
 use Rattle.semantics.specs.State.{CallInfo, State, set_pools, set_calls}

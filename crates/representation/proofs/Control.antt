@@ -8,7 +8,7 @@ use Rattle.ast.specs.Header.{LEVELS}
 use Rattle.ast.specs.Node.{payload_at, op_at, offset_at, count_at, first_at, next_at, trees, tree_at}
 use Rattle.program.specs.Kinds.{HAS_LOOPS, HAS_ASSIGNMENT}
 use Rattle.program.specs.Instruction as N
-use Rattle.program.specs.Program.{Counts}
+use Rattle.program.specs.Counts.{Counts}
 use Rattle.program.specs.Image.{word_of}
 use Rattle.semantics.specs.Run.{handler+, same, opens}
 use Rattle.ast.specs.Rules.{rule_at}
@@ -133,5 +133,5 @@ module _ (tree : List ℕ) (E : ℕ → Bool → Step) (C : ℕ → NameRef → 
         let q = first_at tree p in
         let v : Lowering = P.one ys (constant (P.const_of (payload_at tree p))) λ b. b.expr l in
         rw (target_is tree q n (count_at tree p) (omega arith) (sound (omega arith)) v (L.post_bits tree p))
-        (unless_does (D.target_refusal (rule_at (op_at tree q)) (payload_at tree q)) (R.target_refusal tree q) (target_same tree q)
+        (unless_does (D.target_refusal (rule_at (op_at tree q)) (payload_at tree q)) (R.target_refusal_at tree q) (target_same tree q)
         (flagged_does (S.sets HAS_ASSIGNMENT) (Y.flagged 32) (sets_move 32) (thens (value_does ys j e ks) (store_does n q p le (sound (omega arith)) short)))))

@@ -2,14 +2,14 @@
 use Rattle.std.proofs.Common.{◌≡◌, refl, sym, ap, subst, ◌∙◌, false, List, [], ◌∷◌, ◌++◌, map, append_assoc, ℕ, suc, ◌+◌, arith, length, length-append}
 use lib.ListN.{length-map}
 use Rattle.program.specs.Instruction.{EachNext, loop_end, each_begin, each_next, jump}
-use Rattle.program.specs.Program.{Counts}
+use Rattle.program.specs.Counts.{Counts}
 use Rattle.program.specs.Image.{word_of}
 use Rattle.semantics.specs.Positions.{past}
 use Rattle.semantics.proofs.Positions.{past_append, past_length, past_map}
 use Rattle.semantics.specs.Run.{opens}
 use Rattle.semantics.specs.State.{Item, instr, State, raise}
 use Rattle.semantics.specs.Pieces.{Lowered, emit, Lowering, aim, eached}
-use Rattle.lowering.specs.Pools.{after}
+use Rattle.workspace.specs.Counts.{one_more}
 use Rattle.builder.specs.Segments as T
 use Rattle.lowering.specs.Held.{Held}
 use Rattle.lowering.specs.Parts as L
@@ -149,11 +149,11 @@ module _ {tree : List ℕ} (c : Counts) where
       let l0 = length-append k (instr (each_begin 0) ∷ []) in
       let pk = past_length k in
       let a2 = at_h2 o k os st i f c in
-      let g : Held = (h.0, T.breaks_resolved h.0 (after to) to (pl + 1) h.1) in
+      let g : Held = (h.0, T.breaks_resolved h.0 (one_more to) to (pl + 1) h.1) in
       let r4 : Content tree (opens false c) g (mk o (h2 ++ bd) false os s) =
-      subst (λ (m : ℕ). Content tree (opens false c) (h.0, T.breaks_resolved h.0 (after to) m (pl + 1) h.1) (mk o (h2 ++ bd) false os s)) (sym et)
-      (subst (λ (m : ℕ). Content tree (opens false c) (h.0, T.breaks_resolved h.0 (after to) (suc (past k 0)) m h.1) (mk o (h2 ++ bd) false os s)) (sym e4)
-      (aim_at o h2 X.code false os s h (after to) (suc (past k 0)) (suc bk) (omega (arith, a2, et, pk, fc, l2, l1, l0)) (fit_3 o k os st i f c q) r)) in
+      subst (λ (m : ℕ). Content tree (opens false c) (h.0, T.breaks_resolved h.0 (one_more to) m (pl + 1) h.1) (mk o (h2 ++ bd) false os s)) (sym et)
+      (subst (λ (m : ℕ). Content tree (opens false c) (h.0, T.breaks_resolved h.0 (one_more to) (suc (past k 0)) m h.1) (mk o (h2 ++ bd) false os s)) (sym e4)
+      (aim_at o h2 X.code false os s h (one_more to) (suc (past k 0)) (suc bk) (omega (arith, a2, et, pk, fc, l2, l1, l0)) (fit_3 o k os st i f c q) r)) in
       let r5 = puts (jump (suc (past k 0))) (rw et) o (h2 ++ bd) os s g (fit_j0 o k os st i f c q) r4 in
       let w5 = L.instr 32 0 to 0 g in
       let j = j_is o k os st i f c in

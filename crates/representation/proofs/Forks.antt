@@ -1,7 +1,7 @@
 -- Two branches, one of which is taken: a jump to the second, the first, a jump behind the second, the second. Assumes nothing.
 use Rattle.std.proofs.Common.{◌≡◌, refl, sym, ap, subst, ◌∙◌, false, List, [], ◌∷◌, ◌++◌, append_assoc, ℕ, suc, arith, length-append}
 use Rattle.program.specs.Instruction.{Instruction}
-use Rattle.program.specs.Program.{Counts}
+use Rattle.program.specs.Counts.{Counts}
 use Rattle.semantics.specs.Positions.{past}
 use Rattle.semantics.proofs.Positions.{past_append}
 use Rattle.semantics.specs.State.{Item, instr, State, raise}

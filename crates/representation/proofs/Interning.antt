@@ -4,7 +4,7 @@ use native.Mathlib.Nat.{mul-suc}
 use Rattle.std.proofs.Math.Nat.{mul-le-mul_left}
 use Rattle.numeric.specs.Post.{Post, is_identity}
 use Rattle.program.specs.Kinds.{USES_TEMPS}
-use Rattle.program.specs.Program.{Counts}
+use Rattle.program.specs.Counts.{Counts}
 use Rattle.payload.specs.declared.NameRef.{NameRef}
 use Rattle.payload.specs.Payloads.{named}
 use Rattle.semantics.specs.Positions.{slot, intern, pair_discrete}

@@ -4,7 +4,7 @@ use Rattle.numeric.specs.Post.{is_identity}
 use Rattle.ast.specs.Tree as T
 use Rattle.ast.specs.Node.{payload_at, next_at}
 use Rattle.program.specs.Instruction.{Instruction, plain, post}
-use Rattle.program.specs.Program.{Counts}
+use Rattle.program.specs.Counts.{Counts}
 use Rattle.program.specs.Image.{word_of, word}
 use Rattle.semantics.specs.Run.{operand+}
 use Rattle.semantics.specs.State.{Flags, State, sets, set_flags}

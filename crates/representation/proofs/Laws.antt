@@ -4,7 +4,7 @@ use Rattle.std.specs.Option.{option_or}
 use Rattle.answers.specs.Refusals.{number_of, number_of_first}
 use Rattle.answers.specs.declared.refusals.Refusal.{Refusal}
 use Rattle.answers.specs.declared.refusals.Refusal.TheVariants.{SmallWorkspace}
-use Rattle.program.specs.Program.{Counts}
+use Rattle.program.specs.Counts.{Counts}
 use Rattle.semantics.proofs.Positions.{past_append}
 use Rattle.semantics.specs.Run.{operand+, handler+, opens}
 use Rattle.semantics.specs.State.{Flags, set_flags, raise, fail, first}
@@ -49,8 +49,8 @@ waits b A = record { outer = A.outer; code = A.code; wait = b; open_calls = A.op
 
 module _ {tree : List ℕ} {c : Counts} where
   -- flags: what the builder does to bits and float_loop is what m does
-  pub flags_move : (m : Flags → Flags) (M : B.State → B.State) → ((s : B.State) (f : Flags) → s.marks.bits ≡ f.bits → s.marks.float_loop ≡ f.float_loop → ((M s).marks.bits ≡ (m f).bits) × ((M s).marks.float_loop ≡ (m f).float_loop))
-      → ((s : B.State) → M s ≡ record s { marks = (M s).marks }) → Moves tree (on_state (λ s. set_flags (m s.flags) s)) c c (still M)
+  pub flags_move : (m : Flags → Flags) (M : B.State → B.State) → ((s : B.State) (f : Flags) → s.flags.bits ≡ f.bits → s.flags.float_loop ≡ f.float_loop → ((M s).flags.bits ≡ (m f).bits) × ((M s).flags.float_loop ≡ (m f).float_loop))
+      → ((s : B.State) → M s ≡ record s { flags = (M s).flags }) → Moves tree (on_state (λ s. set_flags (m s.flags) s)) c c (still M)
   flags_move m M e only = search rules
 
   pub flagged_does : (m : Flags → Flags) (M : B.State → B.State) {f : Lowering} {F : Step} → Moves tree (on_state (λ s. set_flags (m s.flags) s)) c c (still M) → Does tree f c F → Does tree (flagged m f) c (λ h. F (still M h))

@@ -2,14 +2,14 @@
 use Rattle.std.proofs.Common.{◌≡◌, refl, sym, ap, subst, ◌∙◌, true, false, List, [], ◌∷◌, ◌++◌, map, append_assoc, ℕ, suc, ◌+◌, ◌≤◌, arith, length, length-append}
 use lib.ListN.{length-map}
 use Rattle.program.specs.Instruction.{Instruction, loop_begin, loop_check, loop_end, each_begin}
-use Rattle.program.specs.Program.{Counts}
+use Rattle.program.specs.Counts.{Counts}
 use Rattle.program.specs.Image.{word_of, word}
 use Rattle.semantics.specs.Positions.{past}
 use Rattle.semantics.proofs.Positions.{past_append, past_length, past_map}
 use Rattle.semantics.specs.Run.{opens}
 use Rattle.semantics.specs.State.{Item, instr, State, raise}
 use Rattle.semantics.specs.Pieces.{Lowered, emit, Lowering, flush, put, aim, counted_loop}
-use Rattle.lowering.specs.Pools.{after}
+use Rattle.workspace.specs.Counts.{one_more}
 use Rattle.builder.specs.Segments as T
 use Rattle.lowering.specs.Held.{Held}
 use Rattle.lowering.specs.Parts as L
@@ -119,12 +119,12 @@ module _ {tree : List ℕ} (c : Counts) where
       let r3 : Content tree (opens true c) h (mk o (hd ++ X.code) false os X.state) = subst (λ (l : List Item). Content tree (opens true c) h (mk o l false os X.state)) e3 r in
       let q3' : Fits (mk o (hd ++ X.code) false os X.state) = subst (λ (l : List Item). Fits (mk o l false os X.state)) e3 q3 in
       let pl = L.place h.0 in
-      let g : Held = (h.0, T.breaks_resolved h.0 (after at) pl (pl + 1) h.1) in
+      let g : Held = (h.0, T.breaks_resolved h.0 (one_more at) pl (pl + 1) h.1) in
       let e4 : pl + 1 ≡ suc ck = omega (arith, p3) in
       let r4 : Content tree (opens true c) g (mk o (hd ++ bd) false os X.state) =
-      subst (λ (n : ℕ). Content tree (opens true c) (h.0, T.breaks_resolved h.0 (after at) n (pl + 1) h.1) (mk o (hd ++ bd) false os X.state)) (sym p3)
-      (subst (λ (n : ℕ). Content tree (opens true c) (h.0, T.breaks_resolved h.0 (after at) ck n h.1) (mk o (hd ++ bd) false os X.state)) (sym e4)
-      (aim_at o hd X.code false os X.state h (after at) ck (suc ck) (let ha = head_at o k os st f c in omega (arith, ha, ea, pk, fc, l1)) q3' r3)) in
+      subst (λ (n : ℕ). Content tree (opens true c) (h.0, T.breaks_resolved h.0 (one_more at) n (pl + 1) h.1) (mk o (hd ++ bd) false os X.state)) (sym p3)
+      (subst (λ (n : ℕ). Content tree (opens true c) (h.0, T.breaks_resolved h.0 (one_more at) ck n h.1) (mk o (hd ++ bd) false os X.state)) (sym e4)
+      (aim_at o hd X.code false os X.state h (one_more at) ck (suc ck) (let ha = head_at o k os st f c in omega (arith, ha, ea, pk, fc, l1)) q3' r3)) in
       let q6 : Fits (mk o (E6 o k os st f c) false os X.state) = shorter o (E6 o k os st f c) (final o k os st f c) os X.state (omega arith) q in
       let q5 : Fits (mk o ((hd ++ bd) ++ (lc ∷ [])) false os X.state) = shorter o ((hd ++ bd) ++ (lc ∷ [])) (E6 o k os st f c) os X.state (omega (arith, length-append ((hd ++ bd) ++ (lc ∷ [])) (instr loop_end ∷ []))) q6 in
       let r5 = puts (loop_check (suc (past k 0))) (let e : at + 1 ≡ suc (past k 0) = omega arith in rw e) o (hd ++ bd) os X.state g q5 r4 in

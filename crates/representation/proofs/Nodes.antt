@@ -5,7 +5,8 @@ use Rattle.ast.specs.Rules as U
 use Rattle.ast.specs.Rules.{Rule, rule_at}
 use Rattle.ast.specs.Tree.{Forest}
 use Rattle.ast.specs.Node.{op_at, payload_at, count_at, first_at, next_at, trees, tree_at}
-use Rattle.program.specs.Program.{Counts, Program}
+use Rattle.program.specs.Counts.{Counts}
+use Rattle.program.specs.Program.{Program}
 use Rattle.semantics.specs.Pieces.{Lowering}
 use Rattle.semantics.specs.Run.{Result, by_end, nothing_open}
 use Rattle.semantics.specs.State.{to_cleanup, to_check, CallInfo, State}
@@ -61,8 +62,8 @@ module _ (tree : List ℕ) (short : length tree ≤ 6144) (n : ℕ) (le : n ≤ 
   -- of a node of that rule
   abbrev ViewsOf : Rule → Type 0
   ViewsOf r = Views (lowerings_of r) (λ l. R.branch tree E C Z n p l r)
-      (λ l h. cond (R.is_return r) (R.ret tree E C Z p l h) (R.branch tree E C Z n p l r h))
-      (λ last l h. cond (R.is_member r) (R.chained tree E C Z p last l h) (R.branch tree E C Z n p l r h))
+      (λ l h. cond (U.is_return r) (R.ret tree E C Z p l h) (R.branch tree E C Z n p l r h))
+      (λ last l h. cond (U.is_member r) (R.chained tree E C Z p last l h) (R.branch tree E C Z n p l r h))
 
   -- one view for all three
   alike : {f : Bool → Lowering} {F : Bool → Step} → ((l : Bool) (c : Counts) → Does tree (f l) c (F l)) → Views (D.alike (settings tree) f) F F (λ last. F)

@@ -4,7 +4,7 @@ use Rattle.answers.specs.Refusals.{number_of}
 use Rattle.answers.specs.declared.refusals.Refusal.{Refusal}
 use lib.Seq.{sets}
 use Rattle.program.specs.Instruction.{Instruction, push}
-use Rattle.program.specs.Program.{Counts}
+use Rattle.program.specs.Counts.{Counts}
 use Rattle.program.specs.Image.{word_of}
 use Rattle.semantics.specs.Positions.{past}
 use Rattle.semantics.proofs.Positions.{past_append}

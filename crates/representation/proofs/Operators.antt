@@ -7,7 +7,7 @@ use Rattle.wire.specs.Bytes.{be8}
 use Rattle.ast.specs.Node.{payload_at, count_at, first_at, next_at}
 use Rattle.program.specs.Kinds.{USES_ARROW}
 use Rattle.program.specs.Instruction as N
-use Rattle.program.specs.Program.{Counts}
+use Rattle.program.specs.Counts.{Counts}
 use Rattle.program.specs.Image.{word_of, word, bit}
 use Rattle.semantics.specs.Run.{operand+, same}
 use Rattle.semantics.specs.State as S

@@ -2,7 +2,7 @@
 use Rattle.std.proofs.Common.{rules, ◌≡◌, refl, sym, ap, subst, ◌∙◌, Bool, List, [], ◌∷◌, ℕ, zero, suc, ◌+◌, ◌*◌, ◌≤◌, ◌<◌, arith, length, eqb, ne_eqb}
 use Rattle.ast.specs.Node.{count_at, first_at}
 use Rattle.program.specs.Instruction.{call}
-use Rattle.program.specs.Program.{Counts}
+use Rattle.program.specs.Counts.{Counts}
 use Rattle.program.specs.Image.{word_of}
 use Rattle.semantics.specs.State.{CallInfo, State, set_pools, set_calls, set_flags, queried}
 use Rattle.semantics.specs.Pieces.{put, with_post, flagged}

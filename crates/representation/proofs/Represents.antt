@@ -5,7 +5,8 @@ use mathlib.Core.Option.{Option, some, none}
 use Rattle.ast.specs.Tree.{Name}
 use Rattle.numeric.specs.Post.{Post}
 use Rattle.program.specs.Instruction.{Instruction}
-use Rattle.program.specs.Counts.{Counts, counts_of, all, Each, AtMost}
+use Rattle.program.specs.Counts.{Counts, all, EachCount, AtMost}
+use Rattle.program.specs.Depths.{counts_of}
 use Rattle.program.specs.Program.{MemberStore}
 use Rattle.program.specs.Image.{word_of}
 use Rattle.depth.specs.declared.Depth.{Depth}
@@ -21,7 +22,7 @@ use Rattle.card.specs.Holds.{PostIs, HashIs, NameIs, MemberIs, StoreIs}
 use Rattle.workspace.specs.declared.counts.Pools as N
 use Rattle.workspace.specs.declared.counts.Listed.{Listed}
 use Rattle.builder.specs.declared.OpenCode.{OpenCode}
-use Rattle.program.specs.declared.Marks.{Marks}
+use Rattle.program.specs.declared.Flags as F
 use Rattle.lowering.specs.Held.{Held}
 use Rattle.lowering.specs.Pools as B
 use Rattle.lowering.specs.Pools.{SHARED, Found}
@@ -226,20 +227,20 @@ pub record Tables (tree ws : List ℕ) (n : N.Pools) (l : Listed) (s : OpenCode)
 
 -- the builder's counters, now and at their deepest, where c is open
 pub record Counted (c deepest : Counts) (d : Depth) : Type 0 where
-  pub open_are : Each (λ m n. m ≡ n) (counts_of d.now) c
-  pub most_are : Each (λ m n. m ≡ n) (counts_of d.max) deepest
+  pub open_are : EachCount (λ m n. m ≡ n) (counts_of d.now) c
+  pub most_are : EachCount (λ m n. m ≡ n) (counts_of d.max) deepest
   pub within : AtMost c deepest
 
 -- what stands beside the words; it is over values, so that a step on the words leaves it as it is
-pub record Beside (c : Counts) (depth : Depth) (marks : Marks) (number : ℕ) (deepest : Counts) (flags : Flags) (refusal : ℕ) : Type 0 where
+pub record Beside (c : Counts) (depth : Depth) (held : F.Flags) (number : ℕ) (deepest : Counts) (flags : Flags) (refusal : ℕ) : Type 0 where
   pub counted : Counted c deepest depth
-  pub bits_are : marks.bits ≡ flags.bits
-  pub float_loop_is : marks.float_loop ≡ flags.float_loop
+  pub bits_are : held.bits ≡ flags.bits
+  pub float_loop_is : held.float_loop ≡ flags.float_loop
   pub number_is : number ≡ refusal
 
 pub record Content (tree : List ℕ) (c : Counts) (h : Held) (A : Abs) : Type 0 where
   pub enough : 16384 ≤ length h.1
-  pub beside : Beside c h.0.depth h.0.marks (number_of_first h.0.refusal) A.state.deepest A.state.flags A.state.refusal
+  pub beside : Beside c h.0.depth h.0.flags (number_of_first h.0.refusal) A.state.deepest A.state.flags A.state.refusal
   pub tables : Tables tree h.1 h.0.pools h.0.listed h.0.code A.outer A.code A.wait A.open_calls A.state.pools
 
 -- ---- steps

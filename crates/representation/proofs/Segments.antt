@@ -4,7 +4,7 @@ use lib.ListN.{length-map}
 use lib.Seq.{sets}
 use Rattle.program.specs.Instruction as I
 use Rattle.program.specs.Instruction.{Instruction}
-use Rattle.program.specs.Program.{Counts}
+use Rattle.program.specs.Counts.{Counts}
 use Rattle.program.specs.Image.{word_of}
 use Rattle.program.specs.Targets.{shift_of}
 use Rattle.semantics.specs.Positions.{past}

@@ -9,7 +9,7 @@ use Rattle.ast.specs.Rules.{known}
 use Rattle.ast.specs.Node.{len_at, op_at, kind_at, payload_at, size_at, count_at, first_at, next_at}
 use Rattle.ast.specs.Questions.{fits, row, filled, rooted, whole, formed, shallow, questions}
 use Rattle.ast.proofs.PayloadKinds.{name_kind_lem}
-use Rattle.program.specs.Program.{Counts}
+use Rattle.program.specs.Counts.{Counts}
 use Rattle.payload.specs.declared.NameRef.{NameRef}
 use Rattle.payload.specs.declared.Payload.{Payload}
 use Rattle.payload.specs.declared.Payload.TheVariants as V

@@ -7,11 +7,12 @@ use native.Mathlib.Decide.{ℕ_discrete}
 use lib.Seq.{sets}
 use Rattle.ast.specs.Tree as T
 use Rattle.ast.specs.Header.{LEVELS}
-use Rattle.ast.specs.Rules.{Rule, return, member, entity, pointer, plain, rule_at}
+use Rattle.ast.specs.Rules.{Rule, return, member, entity, pointer, plain, is_member, rule_at}
 use Rattle.ast.specs.Node.{op_at, payload_at, count_at, first_at, trees, tree_at}
 use Rattle.program.specs.Kinds.{USES_MEMBERS}
 use Rattle.program.specs.Instruction as I
-use Rattle.program.specs.Program.{Counts, StoreRoot, root_var, root_temp, root_other, MemberStore}
+use Rattle.program.specs.Counts.{Counts}
+use Rattle.program.specs.Program.{StoreRoot, root_var, root_temp, root_other, MemberStore}
 use Rattle.program.specs.Image.{word_of}
 use Rattle.program.specs.Fits.{root_index}
 use Rattle.payload.specs.declared.Payload.{Payload}
@@ -49,7 +50,6 @@ use Rattle.representation.proofs.Laws.{flagged_does}
 use Rattle.representation.proofs.OpenCode.{failing_does}
 use Rattle.representation.proofs.Branches.{instr_does}
 use Rattle.representation.proofs.Sound.{NodeSound, Sound, node_sound, first_sound}
-use Rattle.representation.proofs.TargetRules.{member_same}
 use Rattle.representation.proofs.Kin.{variable_lem, found_lem, sets_not_move}
 
 -- ---- paths
@@ -116,7 +116,7 @@ module _ (tree : List ℕ) (n : ℕ) (short : n ≤ LEVELS) where
   link_rule : (p : ℕ) → NodeSound tree p → (m : P.Path) (o : Option PathEnd) (G : Step)
       → PathIs tree (suc n) (P.as_name 6 (payload_at tree p) P.no_path (λ y. P.longer y.hash m)) o G
       → (r : Rule) → PathIs tree (suc n) (P.link r (payload_at tree p) m)
-      (cond (R.is_member r) o (Some (record { root = p; count = 0 }))) (λ h. cond (R.is_member r) (G h) h)
+      (cond (is_member r) o (Some (record { root = p; count = 0 }))) (λ h. cond (is_member r) (G h) h)
   unfolding P.link
   link_rule p s m o G i return = root_path_lem tree (suc n) p s
   link_rule p s m o G i member = i
@@ -340,11 +340,9 @@ module _ (tree : List ℕ) (c : Counts) (n p : ℕ) (few : n ≤ LEVELS) (sound 
       subst (λ (x : Bool). Does tree (cond x (D.member_store path q) (failing 7)) c (λ h. R.store_under tree e.root n p e.count q (still (λ s. L.flagged 16 (L.not_float_only s)) h)))
       (sym i.fine_is) (member_store_lem tree c n p path e q small i)
 
-  store_member_lem : (q : ℕ) → Does tree (cond (D.is_member (rule_at (op_at tree p)) && path.fine) (D.member_store path q) (failing 7)) c (R.store_member tree n p q)
+  store_member_lem : (q : ℕ) → Does tree (cond (is_member (rule_at (op_at tree p)) && path.fine) (D.member_store path q) (failing 7)) c (R.store_member tree n p q)
   unfolding R.store_member
-  store_member_lem q =
-      subst (λ (x : Bool). Does tree (cond (x && path.fine) (D.member_store path q) (failing 7)) c (R.store_member tree n p q)) (sym (member_same (rule_at (op_at tree p))))
-      (member_if q (R.is_link tree p) (R.path_end tree n p) (path_is tree n p few sound))
+  store_member_lem q = member_if q (R.is_link tree p) (R.path_end tree n p) (path_is tree n p few sound)
 
   stored_to : (a : ℕ) → Does tree (D.stores (rule_at (op_at tree p)) (payload_at tree p) (P.path (tree_at n tree p)) (post_bits tree a)) c (R.store tree n p a)
   unfolding D.stores R.store R.store_to put_variable word_of

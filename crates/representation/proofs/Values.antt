@@ -6,7 +6,7 @@ use Rattle.numeric.specs.Post.{fold}
 use Rattle.ast.specs.Node.{payload_at, count_at, first_at}
 use Rattle.program.specs.Kinds.{READS_ACTOR_VARS, READS_CONTEXT, USES_MEMBERS}
 use Rattle.program.specs.Instruction as N
-use Rattle.program.specs.Program.{Counts}
+use Rattle.program.specs.Counts.{Counts}
 use Rattle.program.specs.Image.{word_of}
 use Rattle.semantics.specs.State as S
 use Rattle.semantics.specs.Payloads as P

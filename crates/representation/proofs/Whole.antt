@@ -33,11 +33,11 @@ use Rattle.semantics.proofs.Regions.{regions}
 use Rattle.semantics.proofs.Fitting.{program_fits}
 use Rattle.semantics.proofs.AcceptedTrees.{parsed_fits, parsed_short}
 use Rattle.workspace.specs.Layout.{OPEN, FINISHED, CONSTS, POSTS, HASHES, NAMES, TEMPS, MEMBERS, STORES, CALLS, ARGUMENTS}
-use Rattle.program.specs.declared.Marks.{Marks}
+use Rattle.program.specs.declared.Flags as F
 use Rattle.card.specs.Holds.{Each, InstructionIs, MemberIs, CallIs, Holds}
 use Rattle.lowering.specs.Parts as L
 use Rattle.lowering.specs.Rules as R
-use Rattle.representation.specs.Sections.{in_loop, final_marks, sections_of}
+use Rattle.representation.specs.Sections.{in_loop, closing_flags, sections_of}
 use Rattle.representation.proofs.Rows.{Rows}
 use Rattle.representation.proofs.Represents.{consts, posts, hashes, names, temps, members, pool_held, ItemAt, InstructionAt, WordAt, ConstIs, MemberAt, places, first_place, Filled, CallsFrom, filled, Abs, Fits, Table, Content, Does}
 use Rattle.representation.proofs.Pools.{rows_at}
@@ -205,13 +205,13 @@ members_held {tree} ws xs h k l =
 
 -- ---- the start and the end
 
-flags_final : (b : Bool) (m : Marks) (f : S.Flags) → m.bits ≡ f.bits → (final_marks b m).bits ≡ (cond {A = S.Flags} b f (S.not_float_only f)).bits
-unfolding final_marks S.not_float_only
+flags_final : (b : Bool) (m : F.Flags) (f : S.Flags) → m.bits ≡ f.bits → (closing_flags b m).bits ≡ (cond {A = S.Flags} b f (S.not_float_only f)).bits
+unfolding closing_flags S.not_float_only
 flags_final true m f q = q
 flags_final false m f q = ap (λ (n : ℕ). bit_and n 2046) q
 
-loop_final : (b : Bool) (m : Marks) (f : S.Flags) → m.float_loop ≡ f.float_loop → (final_marks b m).float_loop ≡ (cond {A = S.Flags} b f (S.not_float_only f)).float_loop
-unfolding final_marks S.not_float_only
+loop_final : (b : Bool) (m : F.Flags) (f : S.Flags) → m.float_loop ≡ f.float_loop → (closing_flags b m).float_loop ≡ (cond {A = S.Flags} b f (S.not_float_only f)).float_loop
+unfolding closing_flags S.not_float_only
 loop_final true m f q = q
 loop_final false m f q = refl
 
@@ -343,6 +343,6 @@ module _ (tree words : List ℕ) (small : Bytes tree) (passed : questions tree �
         calls_count = length-map s.calls (place_call b) ∙ sym t.calls_held.call_count;
         calls = subst (λ (m : ℕ). Each (record { index = 0; impl = 0; starts = [] }) (λ k q. CallIs ws m (CALLS + 4 * k) q) (map (place_call b) s.calls)) (sym eb) (calls_placed ws b s.calls (calls_all ws h.0.listed.arguments CALLS 0 s.calls (let ac = t.calls_held.argument_count in omega arith) t.calls_held.the_calls));
         depths = same_counts bs.counted.most_are;
-        flags = rw il (flags_final _ h.0.marks x.state.flags bs.bits_are);
-        float_loop = rw il (loop_final _ h.0.marks x.state.flags bs.float_loop_is);
+        flags = rw il (flags_final _ h.0.flags x.state.flags bs.bits_are);
+        float_loop = rw il (loop_final _ h.0.flags x.state.flags bs.float_loop_is);
       }

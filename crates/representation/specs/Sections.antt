@@ -1,9 +1,9 @@
 -- The card's sections of a builder's state: how much of each region is used, and the closing fields. Definitions only.
 use Rattle.std.specs.Prelude.{Bool, false, cond}
 use Rattle.std.specs.Int.Bits.{bit_and}
-use Rattle.program.specs.Counts.{counts_of}
+use Rattle.program.specs.Depths.{counts_of}
 use Rattle.program.specs.Kinds.{in_float_loop, NOT_FLOAT}
-use Rattle.program.specs.declared.Marks.{Marks}
+use Rattle.program.specs.declared.Flags.{Flags}
 use Rattle.card.specs.declared.Sections.{Sections}
 use Rattle.lowering.specs.Held.{State}
 
@@ -11,8 +11,8 @@ use Rattle.lowering.specs.Held.{State}
 unfoldable pub in_loop : State → Bool
 in_loop s = in_float_loop (counts_of s.depth.max) s.pools.temps
 
-unfoldable pub final_marks : Bool → Marks → Marks
-final_marks fits m = cond fits m (record { bits = bit_and m.bits NOT_FLOAT; float_loop = false })
+unfoldable pub closing_flags : Bool → Flags → Flags
+closing_flags fits m = cond fits m (record { bits = bit_and m.bits NOT_FLOAT; float_loop = false })
 
 unfoldable pub sections_of : State → Sections
 sections_of s = record {
@@ -21,5 +21,5 @@ sections_of s = record {
   pools = s.pools;
   listed = s.listed;
   depths = s.depth.max;
-  marks = final_marks (in_loop s) s.marks;
+  flags = closing_flags (in_loop s) s.flags;
 }

@@ -14,12 +14,12 @@ use Rattle.semantics.proofs.BoundedRules.{tree_bound}
 use Rattle.semantics.proofs.Relations.{Zip, znil, zcons, zip_length, either_rel, name_rel, kind_rel, name_one, hash_rel, math_rel, query_rel}
 use Rattle.semantics.proofs.SimulatedCalls.{Tree-s}
 use Rattle.semantics.proofs.Simulation.{Sim}
-use Rattle.semantics.specs.Lowering.{Lowerings, member_read, with_root, member_store, is_member, target_refusal, unless, const_operand, equal_const, array_element, lower_plain, lower_rule, lower, lowers}
+use Rattle.semantics.specs.Lowering.{Lowerings, member_read, with_root, member_store, target_refusal, unless, const_operand, equal_const, array_element, lower_plain, lower_rule, lower, lowers}
 use Rattle.semantics.specs.Machine.{root_at, plain_action, taking_action, taken, reading_action, guard_action, guard_up, each_action}
 use Rattle.semantics.specs.Payloads.{as_hash, float_of, const_of, one, Path, path}
 use Rattle.semantics.specs.Pieces.{Lowering, put, failing, ◌⨾◌, with_name, with_temp, with_post, constant, post_instruction}
 use Rattle.ast.specs.Header.{Settings}
-use Rattle.ast.specs.Rules.{Rule, rule_at}
+use Rattle.ast.specs.Rules.{Rule, is_member, rule_at}
 use Rattle.ast.specs.Rules as R
 use Rattle.semantics.specs.Run.{Action, e_const, e_hash, e_resource, e_this, e_negate, e_not, e_and_last, e_or_last, e_pointer_leave, e_add_last, e_mul, e_div, e_and_step, e_or_step, e_pointer_enter, e_store_var, e_store_temp, e_load_var, e_load_temp, e_load_ctx, e_array_element, e_member, e_cmp, e_eq, e_store_member, e_cmp_const, e_eq_const, e_eq_hash, e_host_math, e_each_next_var, e_each_next_temp, same, Result}
 use Rattle.semantics.specs.Walk.{Walking, Scope, in_a_loop, in_a_handler, ◌then◌, pass, logs, takes, pushes, returns, loads, Walkings, shown, root_shown, walk_plain, walk_rule, walk, walks}

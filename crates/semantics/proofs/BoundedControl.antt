@@ -7,10 +7,9 @@ use lib.ListN.{length}
 use Rattle.ast.specs.Tree.{Name}
 use Rattle.numeric.specs.Post.{Post}
 use Rattle.program.specs.Instruction.{Guard, jump_if_falsy, EachNext, Instruction, guard, jump, handler_push, handler_pop, call}
-use Rattle.program.specs.Program.{Counts}
+use Rattle.program.specs.Counts.{Counts, AtMost}
 use Rattle.semantics.proofs.Bounds.{Fits, flushed, raised, In, left, Less, Safe, Bound, Fine, raised_to, closed, post_b}
 use Rattle.semantics.proofs.Relations.{Zip, znil, zcons}
-use Rattle.program.specs.Counts.{AtMost}
 use Rattle.semantics.specs.Demand3.{Within}
 use Rattle.semantics.specs.Lowering.{query, Lowerings, called}
 use Rattle.semantics.specs.Pieces.{Lowering, put, with_post, fork}

@@ -9,17 +9,18 @@ use Rattle.ast.specs.Tree.{Name, Payload, Tree, node, Forest, nil, cons}
 use Rattle.numeric.specs.Post.{Post, is_identity}
 use Rattle.program.specs.Instruction as Instr
 use Rattle.program.specs.Instruction.{Taking, Plain, hash, resource, this, negate, not, and_last, or_last, pointer_leave, store_var, store_temp, store_member, cmp_const, eq_const, eq_hash, add_acc, add_last, mul, div, cmp, eq, host_math, load_var, load_temp, load_ctx, member, Guard, div_guard, and_step, or_step, pointer_enter, EachNext, each_next_var, each_next_temp, plain, taking, reading, end, return}
-use Rattle.program.specs.Program.{Counts, StoreRoot, root_var, root_temp, root_other}
+use Rattle.program.specs.Counts.{Counts}
+use Rattle.program.specs.Program.{StoreRoot, root_var, root_temp, root_other}
 use Rattle.semantics.proofs.BoundedControl.{Whole, load_b, ret_b, jumps_b, guarded_b, branch_b, coalesce_b, looped_b, eached_b, query_b}
 use Rattle.semantics.proofs.Bounds.{In, Less, Bound, Fine, cnt_path, taken, ext_bound, after_less, ◌then_b◌, pushed_b, pushed_fine, failing_b, put_b, take_b, flagged_b, interned_b, post_b, temp_b, store_b, constant_b, post_instr_b}
 use Rattle.semantics.proofs.Relations.{Zip, znil, zcons, zip_length, either_rel, name_rel, kind_rel, name_one, hash_rel, math_rel, query_rel}
 use Rattle.semantics.specs.Demand3.{Within}
 use Rattle.semantics.specs.Link.{lowered}
-use Rattle.semantics.specs.Lowering.{Lowerings, member_read, with_root, member_store, is_member, target_refusal, unless, const_operand, equal_const, array_element, lower_plain, lower_rule, lower, lowers}
+use Rattle.semantics.specs.Lowering.{Lowerings, member_read, with_root, member_store, target_refusal, unless, const_operand, equal_const, array_element, lower_plain, lower_rule, lower, lowers}
 use Rattle.semantics.specs.Payloads.{as_hash, one, Path, path}
 use Rattle.semantics.specs.Pieces.{Lowering, flush, failing, const_pool, hash_pool, name_pool, member_pool, constant}
 use Rattle.ast.specs.Header.{Settings}
-use Rattle.ast.specs.Rules.{Rule, rule_at}
+use Rattle.ast.specs.Rules.{Rule, is_member, rule_at}
 use Rattle.ast.specs.Rules as R
 use Rattle.semantics.specs.Run.{Action, e_const, e_add_last, e_store_member, e_add_acc, nothing_open, operand+, operands-, same, begin}
 use Rattle.semantics.specs.State.{to_cleanup, to_check, empty}

@@ -10,15 +10,16 @@ use Rattle.ast.specs.Tree.{Name, Payload, p_none, p_float, p_hash, p_math, p_nam
 use Rattle.numeric.specs.Post.{Post, is_identity}
 use Rattle.program.specs.Instruction as Instr
 use Rattle.program.specs.Instruction.{Taking, Plain, hash, resource, this, negate, not, and_last, or_last, pointer_leave, store_var, store_temp, store_member, cmp_const, eq_const, eq_hash, add_acc, add_last, mul, div, cmp, eq, host_math, load_var, load_temp, load_ctx, member, Guard, div_guard, and_step, or_step, pointer_enter, jump_if_falsy, EachNext, each_next_var, each_next_temp, plain, taking, reading, guard, end, jump, handler_push, handler_pop, return, call}
-use Rattle.program.specs.Program.{Counts, StoreRoot, root_var, root_temp, root_other}
+use Rattle.program.specs.Counts.{Counts}
+use Rattle.program.specs.Program.{StoreRoot, root_var, root_temp, root_other}
 use Rattle.semantics.proofs.Costs.{Weight, weigh, weigh_append}
 use Rattle.semantics.proofs.Relations.{either_one, name_one, hash_one, math_one, query_one}
 use Rattle.semantics.specs.Link.{offsets_of, lowered}
-use Rattle.semantics.specs.Lowering.{query, arguments, pointer, returning, Lowerings, member_read, with_root, member_store, is_member, target_refusal, unless, const_operand, equal_const, close_segment, fill, called, array_element, lower_plain, lower_rule, lower, lowers}
+use Rattle.semantics.specs.Lowering.{query, arguments, pointer, returning, Lowerings, member_read, with_root, member_store, target_refusal, unless, const_operand, equal_const, close_segment, fill, called, array_element, lower_plain, lower_rule, lower, lowers}
 use Rattle.semantics.specs.Payloads.{link, as_name, Path, longer, path, paths}
 use Rattle.semantics.specs.Pieces.{Lowered, Lowering, put, failing, ◌⨾◌}
 use Rattle.ast.specs.Header.{Settings}
-use Rattle.ast.specs.Rules.{Rule, rule_at}
+use Rattle.ast.specs.Rules.{Rule, is_member, rule_at}
 use Rattle.ast.specs.Rules as R
 use Rattle.semantics.specs.Run.{nothing_open, operand+, handler+, same}
 use Rattle.semantics.specs.State.{instr, to_cleanup, to_check, CallInfo, set_calls, State, empty, set_pools}
@@ -155,7 +156,7 @@ module _ (w : Weight) where
   member_store_c m q = C.weak w (C.flagged_c w _ (root_c m.root _ (λ r. C.with_store_c w (record { root = r; path = m.hashes }) _ (λ k. C.put_c w (plain (store_member k q)))))) (omega arith)
 
   path_store_c : (r : Rule) (v : Payload) (us : Forest) (q : ℕ) → Cost (cond (is_member r && (link r v (paths us)).fine) (member_store (link r v (paths us)) q) (failing 7)) (w.sa + w.sa + w.i + pay v + costs us)
-  unfolding is_member link
+  unfolding link
   path_store_c R.member v us q = name_c (λ (m : Path). Cost (cond m.fine (member_store m q) (failing 7)) (w.sa + w.sa + w.i + pay v + costs us)) 6 v (C.failing_c w 7)
       (λ n e. let h = paths_pay us in let i = weigh_append w.pa (paths us).hashes (n.hash ∷ []) in either_one (λ f. Cost f (w.sa + w.sa + w.i + pay v + costs us)) (paths us).fine (C.weak w (member_store_c (longer n.hash (paths us)) q) (omega arith)) (C.failing_c w 7))
   path_store_c _ v us q = C.failing_c w 7

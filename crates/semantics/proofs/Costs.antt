@@ -8,7 +8,8 @@ use lib.ListN.{length}
 use Rattle.ast.specs.Tree.{Name}
 use Rattle.numeric.specs.Post.{Post, is_identity}
 use Rattle.program.specs.Instruction.{post, Guard, EachNext, Instruction, plain, loop_end, jump, loop_check}
-use Rattle.program.specs.Program.{Counts, MemberStore}
+use Rattle.program.specs.Counts.{Counts}
+use Rattle.program.specs.Program.{MemberStore}
 pub use Rattle.program.proofs.Length.{sum, weigh}
 use Rattle.semantics.specs.Link.{offsets_of}
 use Rattle.semantics.specs.Lowering.{fill}

@@ -7,7 +7,8 @@ use Prim.Native.Nat.{ℕ, zero, suc}
 use native.Mathlib.Omega.{arith}
 use Rattle.ast.specs.Node.{parse}
 use Rattle.program.specs.Image.{read}
-use Rattle.program.specs.Program.{Counts, Program}
+use Rattle.program.specs.Counts.{Counts}
+use Rattle.program.specs.Program.{Program}
 use Rattle.semantics.proofs.AcceptedTrees.{parsed_fits, parsed_short}
 use Rattle.semantics.proofs.BoundedRules.{within}
 use Rattle.semantics.proofs.Fitting.{image_back}

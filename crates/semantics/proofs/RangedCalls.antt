@@ -10,13 +10,12 @@ use Rattle.numeric.specs.Post.{Post}
 use Rattle.program.specs.Fits.{Below, Every, FitPost}
 use Rattle.program.specs.Image.{word_of}
 use Rattle.program.specs.Instruction.{end, call}
-use Rattle.program.specs.Program.{Counts}
+use Rattle.program.specs.Counts.{Counts, AtMost}
 use Rattle.semantics.proofs.CostedRules.{seg_grow, call_grow}
 use Rattle.semantics.proofs.Costs.{sum, weigh, weigh_length, count_least, call_weight, sz, size}
 use Rattle.semantics.proofs.RangedJumps.{fits_end}
 use Rattle.semantics.proofs.RangedPools.{post_r}
 use Rattle.semantics.proofs.Ranges.{Fits, ones, FitText, FitInfo, Good, Done, Room, Ranged, past_weigh, every_append, put_r}
-use Rattle.program.specs.Counts.{AtMost}
 use Rattle.semantics.specs.Link.{relocate, settle, offsets_of}
 use Rattle.semantics.specs.Lowering.{query, arguments, Lowerings, pasts, close_segment, fill, called}
 use Rattle.semantics.specs.Pieces.{Lowered, put, with_post}

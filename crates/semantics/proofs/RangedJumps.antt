@@ -5,7 +5,7 @@ use native.Mathlib.Omega.{arith}
 use Rattle.program.specs.Fits.{Every}
 use Rattle.program.specs.Image.{word_of}
 use Rattle.program.specs.Instruction.{Guard, EachNext, Instruction, guard, loop_end, end, jump, loop_begin, loop_check, each_begin, each_next}
-use Rattle.program.specs.Program.{Counts}
+use Rattle.program.specs.Counts.{Counts}
 use Rattle.semantics.proofs.Costs.{weigh_map, weigh_append}
 use Rattle.semantics.proofs.Ranges.{Fits, Aims, Under, Ranged, past_weigh, shift, Up, every_append, flushed}
 use Rattle.semantics.specs.Link.{relocate, settle}

@@ -8,11 +8,11 @@ use lib.ListN.{length}
 use Rattle.ast.specs.Tree.{Name}
 use Rattle.numeric.specs.Post.{Post, is_identity}
 use Rattle.program.specs.Fits.{Below, Every, FitPost, root_index}
-use Rattle.program.specs.Program.{Counts, MemberStore}
+use Rattle.program.specs.Counts.{Counts, AtMost}
+use Rattle.program.specs.Program.{MemberStore}
 use Rattle.semantics.proofs.Costs.{weigh, sum_append, count_least, store_weight, sz, size}
 use Rattle.semantics.proofs.Positions.{interning}
 use Rattle.semantics.proofs.Ranges.{ones, FitText, FitRead, FitPools, Good, Under, Ranged, sets_fit, every_append, every_intern, const_r, flagged_r}
-use Rattle.program.specs.Counts.{AtMost}
 use Rattle.semantics.specs.Pieces.{Lowering, put_const, itself, Pool, interned, const_pool, hash_pool, slot_pool, with_const, with_hash, hash_key, name_pool, with_name, with_slot, with_temp, read_key, member_pool, with_member, with_store, post_key, post_pool, post_if, with_post, constant}
 use Rattle.semantics.specs.Positions.{slot, intern, pair_discrete}
 use Rattle.semantics.specs.State.{MemberRead, Pools, set_stores, State, set_pools}

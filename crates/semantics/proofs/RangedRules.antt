@@ -1,4 +1,4 @@
-use Rattle.ast.specs.Rules.{Rule, rules, rule_of, rule_at}
+use Rattle.ast.specs.Rules.{Rule, is_member, rules, rule_of, rule_at}
 use Rattle.ast.specs.Rules as R
 use borrow.Author.Tests.{leb-true}
 use Rattle.numeric.proofs.PostFits.{fold_fits_four}
@@ -25,7 +25,7 @@ use Rattle.semantics.proofs.RangedPools.{free, with_temp_r, with_store_r, consta
 use Rattle.semantics.proofs.Relations.{either_one}
 use Rattle.semantics.proofs.Ranges.{Fits, Aims, FitText, Under, Ranged, shift, Up, sets_fit, not_fit, queried_fit, every_append, ◌then_r◌, pushed_r, nothing_r, failing_r, put_r, jumps_r, flagged_r}
 use Rattle.semantics.specs.Link.{relocate, settle}
-use Rattle.semantics.specs.Lowering.{statements, paired, bounds, logic, terms, host_math, stores, target, each_of, variable, loaded, chained, pointer, returning, Lowerings, member_read, with_root, member_store, is_member, target_refusal, unless, const_operand, equal_const, is_empty, array_element, lower_plain, lower_rule, lower, lowers}
+use Rattle.semantics.specs.Lowering.{statements, paired, bounds, logic, terms, host_math, stores, target, each_of, variable, loaded, chained, pointer, returning, Lowerings, member_read, with_root, member_store, target_refusal, unless, const_operand, equal_const, is_empty, array_element, lower_plain, lower_rule, lower, lowers}
 use Rattle.semantics.specs.Payloads.{link, const_of, one, Path, path, paths}
 use Rattle.semantics.specs.Pieces.{Lowering, put, nothing, failing, with_post, constant}
 use Rattle.ast.specs.Header.{Settings}

@@ -11,7 +11,7 @@ use Rattle.program.specs.Image.{word_of}
 use Rattle.program.specs.Instruction.{const, plain, Instruction, halt, push}
 use Rattle.semantics.proofs.Costs.{Weight, weigh, weigh_length, size, waits, weigh_append}
 use Rattle.semantics.proofs.Positions.{past_plus, interning}
-use Rattle.program.specs.Counts.{Counts, Each, AtMost}
+use Rattle.program.specs.Counts.{Counts, EachCount, AtMost}
 use Rattle.semantics.specs.Link.{relocate, settle, offsets_of}
 use Rattle.semantics.specs.Pieces.{Lowered, emit, Lowering, flush, put, nothing, failing, put_const, ◌⨾◌, pushed, flagged, jumps}
 use Rattle.semantics.specs.Positions.{◌⊕◌, past, intern}
@@ -75,7 +75,7 @@ pub record Done (x : Lowered) : Type 0 where
 
 -- counts m have room for the counts c and all that a piece adds, from `before` entries and a Push that may wait to `after`
 abbrev pub Room : Counts → Counts → ℕ → ℕ → ℕ → Type 0
-Room c m w before after = Each (λ n most. n + after ≤ most + before + w) c m
+Room c m w before after = EachCount (λ n most. n + after ≤ most + before + w) c m
 
 -- the indices that stand in the piece are small
 abbrev pub Under : List ℕ → Type 0
@@ -113,7 +113,7 @@ shift b (suc t) = let h = shift b t in omega arith
 
 -- what a fork or a guard opens
 pub record Up (up : Counts → Counts) : Type 0 where
-  pub by : (c : Counts) → Each (λ n before. n ≤ suc before) (up c) c
+  pub by : (c : Counts) → EachCount (λ n before. n ≤ suc before) (up c) c
 
 fits_push : Fits (instr push)
 unfolding settle relocate word_of

@@ -7,7 +7,8 @@ use lib.ListN.{length, get_or, length-map}
 use Rattle.ast.specs.Tree.{Name}
 use Rattle.numeric.specs.Post.{Post, is_identity}
 use Rattle.program.specs.Instruction.{Instruction, end, call}
-use Rattle.program.specs.Program.{Counts, Program, code_at, post_at, call_at, start_at}
+use Rattle.program.specs.Counts.{Counts}
+use Rattle.program.specs.Program.{Program, code_at, post_at, call_at, start_at}
 use Rattle.semantics.proofs.Bounds.{Less}
 use Rattle.semantics.proofs.Positions.{Holds, past_length, whole_list}
 use Rattle.semantics.proofs.Relations.{Zip, znil, zcons, zip_length}

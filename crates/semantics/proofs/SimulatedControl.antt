@@ -5,7 +5,8 @@ use Prim.Native.Nat.{ℕ, zero, suc, ◌≤◌}
 use native.Mathlib.Omega.{arith}
 use lib.ListN.{length}
 use Rattle.program.specs.Instruction.{Reading, Guard, jump_if_falsy, EachNext, reading, guard, loop_end, jump, handler_push, handler_pop, loop_check, return, each_next}
-use Rattle.program.specs.Program.{Counts, Program, code_at, post_at}
+use Rattle.program.specs.Counts.{Counts}
+use Rattle.program.specs.Program.{Program, code_at, post_at}
 use Rattle.semantics.proofs.Bounds.{left, Less}
 use Rattle.semantics.proofs.Positions.{past_map, past_append}
 use Rattle.semantics.proofs.Simulation.{has_handler, Place, at}

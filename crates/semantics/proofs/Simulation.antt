@@ -7,7 +7,8 @@ use native.Mathlib.Decide.{ℕ_discrete}
 use Rattle.ast.specs.Tree.{Name}
 use Rattle.numeric.specs.Post.{Post, identity, is_identity}
 use Rattle.program.specs.Instruction.{post, Plain, Taking, Instruction, plain, taking}
-use Rattle.program.specs.Program.{name_at, Counts, MemberStore, Program, code_at, const_at, post_at, hash_at, slot_at, member_at, store_at, call_at}
+use Rattle.program.specs.Counts.{Counts}
+use Rattle.program.specs.Program.{name_at, MemberStore, Program, code_at, const_at, post_at, hash_at, slot_at, member_at, store_at, call_at}
 use Rattle.semantics.proofs.Bounds.{refused}
 use Rattle.semantics.proofs.Positions.{Holds, past_map, past_append, past_length, holds_left, holds_right, intern_grows, intern_has}
 use Rattle.semantics.specs.Link.{relocate, settle}

@@ -6,12 +6,13 @@ use Rattle.numeric.specs.Post.{Post, fold}
 use Rattle.ast.specs.NameKinds as Kind
 use Rattle.ast.specs.Header.{Settings}
 use Rattle.ast.specs.Rules as R
-use Rattle.ast.specs.Rules.{Rule, rule_at}
+use Rattle.ast.specs.Rules.{Rule, is_member, rule_at}
 use Rattle.ast.specs.Tree.{Name, Payload, Tree, node, Forest, nil, cons}
 use Rattle.program.specs.Kinds.{HAS_ASSIGNMENT, HAS_LOOPS, READS_ACTOR_VARS, READS_CONTEXT, USES_ARROW, USES_MEMBERS, USES_RANDOM, USES_RANDOM_OP}
 use Rattle.program.specs.Instruction as I
 use Rattle.program.specs.Instruction.{Taking, Plain, Guard, EachNext}
-use Rattle.program.specs.Program.{Counts, StoreRoot, root_var, root_temp, root_other}
+use Rattle.program.specs.Counts.{Counts}
+use Rattle.program.specs.Program.{StoreRoot, root_var, root_temp, root_other}
 use Rattle.semantics.specs.Positions.{past}
 use Rattle.semantics.specs.Payloads as P
 use Rattle.semantics.specs.Payloads.{Kinds, by_kind, as_name, as_hash, as_math, as_query, float_of, const_of}
@@ -74,13 +75,6 @@ member_store m q = flagged (λ f. sets USES_MEMBERS (not_float_only f)) (with_ro
   k ← with_store (record { root = r; path = m.hashes })
   put (I.plain (I.store_member k q)))
 
-unfoldable pub is_member : Rule → Bool
-is_member R.return = false
-is_member R.member = true
-is_member R.entity = false
-is_member R.pointer = false
-is_member (R.plain r) = false
-
 -- "Assignment: value, post, name"; 01, Slips: under MemberAccessor an Entity payload "is StoreVar"
 unfoldable pub stores : Rule → Payload → Path → Post → Lowering
 stores r v m p = do
@@ -112,7 +106,7 @@ target (cons (node op q v us) ts) f p = unless (target_refusal (rule_at op) v) (
 
 -- ---- logic
 
--- a child and the form with a constant, or two children and the instruction of both; the post is interned first
+-- 01, Modules: "Comparison, equality, .. intern the post first": a child and the form with a constant, or two children and the instruction of both
 unfoldable pub paired : (ℕ → Lowering) → (ℕ → Taking) → Post → List Lowerings → Bool → Lowering
 paired with_constant i p xs l = P.some xs (failing Refusal.FAILED) λ a ys. do
   q ← with_post p
@@ -142,7 +136,7 @@ logic step last a (b ∷ xs) l = do
 
 -- ---- arith
 
--- two children, and the instruction of both with the post behind them
+-- 01, Modules: "most others after their operands": two children, and the instruction of both with the post behind them
 unfoldable pub bounds : (ℕ → Taking) → Post → Lowerings → Lowerings → Bool → Lowering
 bounds i p a b l = pushed (a.expr l) do
   b.expr l

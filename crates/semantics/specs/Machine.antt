@@ -4,7 +4,8 @@ use mathlib.Core.List.{List, [], ◌∷◌, tail}
 use Rattle.std.proofs.Math.Option.{Option, some, none}
 use Rattle.program.specs.Instruction as I
 use Rattle.program.specs.Instruction.{Plain, Taking, Reading, Guard, EachNext, Instruction}
-use Rattle.program.specs.Program.{Counts, StoreRoot, root_var, root_temp, root_other, Program, code_at, const_at}
+use Rattle.program.specs.Counts.{Counts}
+use Rattle.program.specs.Program.{StoreRoot, root_var, root_temp, root_other, Program, code_at, const_at}
 use Rattle.program.specs.Program.{post_at, hash_at, name_at, slot_at, member_at, store_at, call_at, start_at}
 use Rattle.semantics.specs.Run as E
 use Rattle.semantics.specs.Run.{Action, Run, set_counts, note, note_argument, operand+, operands-, handler+, handler-, count, draw, Result, result}

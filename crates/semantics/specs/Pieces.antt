@@ -6,7 +6,8 @@ use Rattle.ast.specs.Tree.{Name}
 use Rattle.program.specs.Kinds.{USES_TEMPS}
 use Rattle.program.specs.Instruction as I
 use Rattle.program.specs.Instruction.{Guard, EachNext, Instruction}
-use Rattle.program.specs.Program.{Counts, MemberStore}
+use Rattle.program.specs.Counts.{Counts}
+use Rattle.program.specs.Program.{MemberStore}
 use Rattle.semantics.specs.Positions.{past, slot, intern, pair_discrete}
 use Rattle.semantics.specs.Run.{operand+, opens}
 use Rattle.semantics.specs.State as S

@@ -39,39 +39,35 @@ pub record Pools : Type 0 where
   pub calls : List CallInfo
   pub segments : List (List Item)
 
--- the pools by their lists, in the order of the fields
-abbrev pub pools : List ℕ → List Post → List ℕ → List Name → List ℕ → List MemberRead → List MemberStore → List CallInfo → List (List Item) → Pools
-pools c p h n t m s q g = record { consts = c; posts = p; hashes = h; names = n; temps = t; members = m; stores = s; calls = q; segments = g }
-
 abbrev pub no_pools : Pools
-no_pools = pools [] [] [] [] [] [] [] [] []
+no_pools = record { consts = []; posts = []; hashes = []; names = []; temps = []; members = []; stores = []; calls = []; segments = [] }
 
 abbrev pub set_consts : List ℕ → Pools → Pools
-set_consts x s = pools x s.posts s.hashes s.names s.temps s.members s.stores s.calls s.segments
+set_consts x s = record s { consts = x }
 
 abbrev pub set_posts : List Post → Pools → Pools
-set_posts x s = pools s.consts x s.hashes s.names s.temps s.members s.stores s.calls s.segments
+set_posts x s = record s { posts = x }
 
 abbrev pub set_hashes : List ℕ → Pools → Pools
-set_hashes x s = pools s.consts s.posts x s.names s.temps s.members s.stores s.calls s.segments
+set_hashes x s = record s { hashes = x }
 
 abbrev pub set_names : List Name → Pools → Pools
-set_names x s = pools s.consts s.posts s.hashes x s.temps s.members s.stores s.calls s.segments
+set_names x s = record s { names = x }
 
 abbrev pub set_temps : List ℕ → Pools → Pools
-set_temps x s = pools s.consts s.posts s.hashes s.names x s.members s.stores s.calls s.segments
+set_temps x s = record s { temps = x }
 
 abbrev pub set_members : List MemberRead → Pools → Pools
-set_members x s = pools s.consts s.posts s.hashes s.names s.temps x s.stores s.calls s.segments
+set_members x s = record s { members = x }
 
 abbrev pub set_stores : List MemberStore → Pools → Pools
-set_stores x s = pools s.consts s.posts s.hashes s.names s.temps s.members x s.calls s.segments
+set_stores x s = record s { stores = x }
 
 abbrev pub set_calls : List CallInfo → Pools → Pools
-set_calls x s = pools s.consts s.posts s.hashes s.names s.temps s.members s.stores x s.segments
+set_calls x s = record s { calls = x }
 
 abbrev pub set_segments : List (List Item) → Pools → Pools
-set_segments x s = pools s.consts s.posts s.hashes s.names s.temps s.members s.stores s.calls x
+set_segments x s = record s { segments = x }
 
 -- 01, The program image: "Flag bits from 0: FLOAT_ONLY, .., USES_RANDOM_OP", and float_loop
 pub record Flags : Type 0 where
@@ -83,7 +79,7 @@ abbrev pub all_float : Flags
 all_float = record { bits = FLOAT_ONLY; float_loop = true }
 
 unfoldable pub sets : ℕ → Flags → Flags
-sets k f = record { bits = bit_or f.bits k; float_loop = f.float_loop }
+sets k f = record f { bits = bit_or f.bits k }
 
 -- all bits but FLOAT_ONLY stay
 unfoldable pub not_float_only : Flags → Flags
@@ -103,13 +99,13 @@ abbrev pub empty : State
 empty = record { pools = no_pools; deepest = nothing_open; flags = all_float; refusal = 0 }
 
 abbrev pub set_pools : Pools → State → State
-set_pools x s = record { pools = x; deepest = s.deepest; flags = s.flags; refusal = s.refusal }
+set_pools x s = record s { pools = x }
 
 abbrev pub set_flags : Flags → State → State
-set_flags x s = record { pools = s.pools; deepest = s.deepest; flags = x; refusal = s.refusal }
+set_flags x s = record s { flags = x }
 
 abbrev pub raise : Counts → State → State
-raise c s = record { pools = s.pools; deepest = pairwise max s.deepest c; flags = s.flags; refusal = s.refusal }
+raise c s = record s { deepest = pairwise max s.deepest c }
 
 -- 01, Nine questions: "Of 5 to 8 the first met in lowering decides."
 unfoldable pub first : ℕ → ℕ → ℕ
@@ -117,4 +113,4 @@ first zero n = n
 first (suc m) n = suc m
 
 abbrev pub fail : ℕ → State → State
-fail n s = record { pools = s.pools; deepest = s.deepest; flags = s.flags; refusal = first s.refusal n }
+fail n s = record s { refusal = first s.refusal n }

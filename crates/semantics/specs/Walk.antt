@@ -6,7 +6,8 @@ use Rattle.ast.specs.Header.{Settings}
 use Rattle.ast.specs.Rules as R
 use Rattle.ast.specs.Rules.{Rule, rule_at}
 use Rattle.ast.specs.Tree.{Payload, Tree, node, Forest, nil, cons}
-use Rattle.program.specs.Program.{Counts, StoreRoot, root_var, root_temp, root_other}
+use Rattle.program.specs.Counts.{Counts}
+use Rattle.program.specs.Program.{StoreRoot, root_var, root_temp, root_other}
 use Rattle.semantics.specs.Payloads.{as_name, as_hash, as_math, as_query, float_of, const_of, string_of, resource_of}
 use Rattle.semantics.specs.Payloads.{one, two, three, some, just, Path, path, by_kind}
 use Rattle.semantics.specs.Run as E

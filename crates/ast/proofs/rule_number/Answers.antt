@@ -1,6 +1,6 @@
 use mathlib.Core.Path.{◌∙◌}
 use Rattle.ast.proofs.WholeTable.{rules, rule_at_lem}
-use Rattle.ast.proofs.number.Goals as goal
+use Rattle.ast.proofs.rule_number.Goals as goal
 
 pub returns : goal.returns
 unfolding rules
