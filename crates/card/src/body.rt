@@ -3,6 +3,7 @@
 
 ghost use Rattle.std.specs.Prelude.{◌≡◌, [], ◌++◌, ◌+◌, ◌*◌, ◌^◌, ◌≤◌, ◌<◌, length};
 ghost use Rattle.wire.specs.Bytes.{be};
+ghost use Rattle.program.specs.Image.{bit};
 ghost use Rattle.card.specs.declared.TheConstants.{CLOSING};
 ghost use Rattle.card.specs.Written.{Wrote, cat};
 ghost use Rattle.card.specs.Puts.{Room, Puts};
@@ -15,6 +16,7 @@ use crate::fields::{Entries, Words, Writer};
 use crate::measure::Sums;
 use crate::{Lowered, Sections};
 use numeric::{PostBits, PostOp};
+use program::Flags;
 use workspace::layout;
 
 impl Writer<'_> {
@@ -81,11 +83,17 @@ impl Writer<'_> {
         self.all(&hashes, 2 * usize::from(n));
     }
 
-    #[tactic(
-        auto,
-        using(crate::proofs::Join::writing),
-        unfolding(crate::specs::Image::closing_bytes, crate::specs::Written::joined, program::specs::Image::bit)
-    )]
+    // The flags, and whether the program starts on the float loop.
+    #[tactic(auto, using(crate::proofs::Join::writing), unfolding(program::specs::Image::bit))]
+    fn flags(&mut self, f: Flags)
+        requires { Room self.old 3 }
+        ensures { Puts self.old self.new (be 2 f.bits [] ++ be 1 (bit f.float_loop) []) 3 }
+    {
+        self.put(f.bits);
+        self.put(u8::from(f.float_loop));
+    }
+
+    #[tactic(auto, using(crate::proofs::Join::writing), unfolding(crate::specs::Image::closing_bytes, crate::specs::Written::joined))]
     fn closing(&mut self, c: Sections)
         requires { Room self.old CLOSING }
         ensures { Puts self.old self.new (closing_bytes c) CLOSING }
@@ -93,8 +101,7 @@ impl Writer<'_> {
         self.put(c.depths.stack);
         self.put(c.depths.loops);
         self.put(c.depths.handlers);
-        self.put(c.flags.bits);
-        self.put(u8::from(c.flags.float_loop));
+        self.flags(c.flags);
     }
 }
 
