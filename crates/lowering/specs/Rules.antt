@@ -23,8 +23,8 @@ use Rattle.lowering.specs.Parts.{Step, ◌>>◌, ◌>>=◌, either, unless_refus
 use Rattle.lowering.specs.Parts.{post_bits, with_post, put_post, post_instr, emit_jump, with_jump, place_target, resolve_breaks, jump_out}
 use Rattle.lowering.specs.Parts.{loop_closed, each_closed, with_call, argument_closed, each_next}
 unfoldable pub use Rattle.lowering.specs.Leaves.{no_variable, variable_of, name_kind, temp_kind, hashed, with_path, payload, rule, if_name, if_hash}
-unfoldable pub use Rattle.lowering.specs.Leaves.{if_math, if_query, variable, with_variable, read_flagged, load_context, load, string_literal, resource, generic}
-unfoldable pub use Rattle.lowering.specs.Leaves.{member_put, array_put, longer, is_link, path_end, path_hashes, store_as, store_under, store_member}
+unfoldable pub use Rattle.lowering.specs.Leaves.{if_math, if_query, variable, with_variable, read_flagged, load_context, load, string_literal, resource}
+unfoldable pub use Rattle.lowering.specs.Leaves.{generic, member_put, array_put, longer, is_link, path_end, path_hashes, store_as, store_under, store_member}
 unfoldable pub use Rattle.lowering.specs.Leaves.{store_to, store, target_refusal, target_refusal_at, compare_const, equal_const, constant_form}
 
 -- ---- rules with operands: E lowers the node at a place with one level fewer, C does as the base of a member path, R a Return of a statement list

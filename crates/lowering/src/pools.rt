@@ -58,7 +58,7 @@ impl<const WIDTH: usize, const KEY: usize> Region<WIDTH, KEY> {
     }
 
     // How many of `n` entries are passed, `STEP` at a time and from step `first` on, with none of that key among them. A `for`: tried `find` over the steps,
-    // by which constants are 7 % slower.
+    // by which constants are slower.
     fn skip<const STEP: u16>(&self, ws: &[u32], first: u16, n: u16, words: &[u32; WIDTH]) -> u16
         requires { 0 < STEP }
         ensures { (result ≤ n) × NoneHas (hit ws.now self.now.from WIDTH (take KEY words.now)) (STEP * first) result }
@@ -75,7 +75,7 @@ impl<const WIDTH: usize, const KEY: usize> Region<WIDTH, KEY> {
     }
 
     // The number of the first of `n` entries that has the key of the one given, as `seek` has it; none has the key where `seek` comes to `n`. Entries are
-    // passed by 64, then by eight: by eight alone constants take 15 % more instructions. A `for`: tried `find` over the range, by which constants are 1.6 % slower.
+    // passed by 64, then by eight: by eight alone constants take 15 % more instructions. A `for`: tried `find` over the range, by which constants are slower.
     fn find(&self, ws: &[u32], n: u16, words: &[u32; WIDTH]) -> Option<u16>
         ensures { Finds (hit ws.now self.now.from WIDTH (take KEY words.now)) n result }
     {
