@@ -2,8 +2,8 @@
  * crates/codegen_c/out/libcodegen.a (made by `./build library`). x86-64, C99 or C++.
  *
  * molang_build turns a tree image into a program image. It keeps nothing between calls, takes no memory of its own but the stack, calls nothing but memset and
- * memmove, and may run in several threads at once, each with its own workspace and output. Give it 256 KiB of stack: 42,080 bytes are the most that was seen,
- * 5,408 with the stored pieces.
+ * memmove, and may run in several threads at once, each with its own workspace and output. Give it 256 KiB of stack: 43,520 bytes are the most that was seen,
+ * 3,640 with the stored pieces.
  *
  * The thread that calls it must round floats to nearest and keep subnormals, as a program does from its start (MXCSR: rounding control 0, FTZ and DAZ
  * off): constants are folded while compiling, and with another mode a fold gives other bytes, though never a fault (bench/floats). */
