@@ -102,8 +102,8 @@ struct molang_packing {
 };
 
 /* Packs the `count` images of these sizes on few pages: the largest first on the first page with room, and then a search over all places, image by image and
- * page by page, that takes at most `budget` steps. The first packing with the fewest pages is answered. It takes no memory but a little stack, and its
- * time is that of its steps. `sizes` is only read, and may be null where `count` is 0. */
+ * page by page, that takes at most `budget` steps. The first packing with the fewest pages is answered. It takes no memory but a little stack, calls
+ * nothing but memset, and its time is that of its steps. `sizes` is only read, and may be null where `count` is 0. */
 struct molang_packing molang_pack(const uint16_t *sizes, size_t count, uint64_t budget);
 
 #ifdef __cplusplus

@@ -5,6 +5,7 @@ use mathlib.Core.List.{List, [], ◌∷◌, map}
 use Rattle.numeric.specs.Post.{identity}
 use Rattle.answers.specs.Refusals as Refusal
 use Rattle.ast.specs.NameKinds as Kind
+use Rattle.ast.specs.Operators as Operator
 use Rattle.ast.specs.Tree.{Payload, p_none, p_name, Tree, node, Forest, nil, cons}
 use Rattle.ast.specs.Questions.{questions}
 use Rattle.ast.specs.Encode.{image}
@@ -21,35 +22,16 @@ times : ℕ → (Tree → Tree) → Tree → Tree
 times zero f t = t
 times (suc n) f t = f (times n f t)
 
--- the operator codes of the nodes
-abbrev THIS : ℕ
-THIS = 12
-
-abbrev TEMP_VARIABLE : ℕ
-TEMP_VARIABLE = 14
-
-abbrev MEMBER_ACCESSOR : ℕ
-MEMBER_ACCESSOR = 16
-
-abbrev ASSIGNMENT : ℕ
-ASSIGNMENT = 33
-
-abbrev NEGATE : ℕ
-NEGATE = 37
-
-abbrev ADD : ℕ
-ADD = 39
-
 -- a code that is none
 unknown : ℕ
 unknown = 52
 
 this : Tree
-this = leaf THIS
+this = leaf Operator.THIS
 
 -- so many negations of t
 negated : ℕ → Tree → Tree
-negated n t = times n (over NEGATE p_none) t
+negated n t = times n (over Operator.NEGATE p_none) t
 
 copies : ℕ → Tree → Forest
 copies zero t = nil
@@ -77,12 +59,12 @@ rows =
     ∷ row (negated 31 this) Refusal.TOO_DEEP
     ∷ row (negated 63 this) Refusal.TOO_DEEP
     -- L4 to L6: a child that no rule lowers counts too, and so does an assignment's target
-    ∷ row (over THIS p_none (negated 29 this)) Refusal.ACCEPTED
-    ∷ row (over THIS p_none (negated 30 this)) Refusal.TOO_DEEP
-    ∷ row (node ASSIGNMENT identity p_none (cons (over TEMP_VARIABLE t (negated 29 this)) (cons this nil))) Refusal.TOO_DEEP
+    ∷ row (over Operator.THIS p_none (negated 29 this)) Refusal.ACCEPTED
+    ∷ row (over Operator.THIS p_none (negated 30 this)) Refusal.TOO_DEEP
+    ∷ row (node Operator.ASSIGNMENT identity p_none (cons (over Operator.TEMP_VARIABLE t (negated 29 this)) (cons this nil))) Refusal.TOO_DEEP
     -- L7, L8: many nodes on one level; a member path of 30 accessors
-    ∷ row (node ADD identity p_none (copies 40 this)) Refusal.ACCEPTED
-    ∷ row (times 30 (over MEMBER_ACCESSOR x) this) Refusal.ACCEPTED
+    ∷ row (node Operator.ADD identity p_none (copies 40 this)) Refusal.ACCEPTED
+    ∷ row (times 30 (over Operator.MEMBER_ACCESSOR x) this) Refusal.ACCEPTED
     -- L9, L10: question 3 comes first, below the limit and at it
     ∷ row (negated 39 (leaf unknown)) Refusal.DAMAGED
     ∷ row (negated 30 (leaf unknown)) Refusal.DAMAGED

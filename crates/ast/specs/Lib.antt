@@ -1,4 +1,5 @@
 pub mod Header
+pub mod Operators
 pub mod NameKinds
 pub mod Rules
 pub mod Tree

@@ -3,6 +3,7 @@
 
 pub mod header;
 pub mod kinds;
+pub mod operators;
 pub mod rules;
 pub mod subs;
 

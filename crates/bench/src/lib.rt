@@ -56,7 +56,8 @@ fn workspace() -> [u32; WORDS]
     [0; WORDS]
 }
 
-// What `input` gives, as far as `room` goes. A read that fails ends it.
+// What `input` gives, as far as `room` goes. A read that fails ends it. The programs lend it the plain standard input: a lock on that would bring a window of
+// 8 KiB along, and the room is there.
 pub fn read<'a, R: Read>(input: &mut R, room: &'a mut [u8]) -> &'a [u8]
     ensures within { length result.now ≤ length room.old }
     ensures bytes { Consumes (R.remaining input.old) (R.remaining input.new) result.now }

@@ -3,3 +3,4 @@ pub mod Skipped
 pub mod Slots
 pub mod Paths
 pub mod Rounds
+pub mod Others

@@ -1,6 +1,6 @@
 -- Entries passed by steps: none of them is a hit. Assumes nothing.
 use mathlib.Core.Path.{◌≡◌}
-use mathlib.Core.Bool.{Bool, false}
+use mathlib.Core.Bool.{Bool, true, false}
 use mathlib.Core.List.{List}
 use Prim.Native.Nat.{ℕ, ◌+◌, ◌-◌, ◌*◌, ◌/◌, ◌≤◌, ◌<◌}
 use native.Mathlib.Decide.{dec_lt}
@@ -10,6 +10,10 @@ use native.Mathlib.Omega.{arith}
 use lib.ListN.{length, get_or, take}
 use Rattle.lowering.specs.Search.{hit, Without, NoneHas}
 use Rattle.lowering.proofs.Hits.{stands_false}
+
+-- what is not true has every consequence
+pub untrue : {A : Type 0} → false ≡ true → A
+untrue e = let z : ◌≡◌ {A = ℕ} 0 1 = cc in absurd (omega arith)
 
 -- none up to n, nor from there up to m
 pub none_more : (test : ℕ → Bool) (i n m : ℕ) → NoneHas test i n → NoneHas test n m → NoneHas test i m

@@ -93,13 +93,13 @@ fn above(opened: u8, needed: u32) -> u8
     u32::from(opened).saturating_sub(needed) as u8
 }
 
-// The first `n` of the pages, and 0 behind them.
+// The first `n` of the pages, and 0 behind them: filled, since a copy of the first would want C's memcpy, which nothing else here calls.
 fn listed(pages: [u8; IMAGES], n: usize) -> [u8; IMAGES]
     requires { n ≤ 32 }
     ensures { (take n result ≡ take n pages) × (drop n result ≡ replicate (32 - n) 0) }
 {
-    let mut listed = [0; IMAGES];
-    listed[..n].copy_from_slice(&pages[..n]);
+    let mut listed = pages;
+    listed[n..].fill(0);
     listed
 }
 

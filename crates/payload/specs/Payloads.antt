@@ -1,5 +1,5 @@
 -- The payload of a node as the code holds it, with its text left in the image, and what it stands for. Definitions only.
-use Rattle.std.specs.Prelude.{ℕ, ◌-◌, min, List, [], ◌∷◌, length, get_or, take, drop}
+use Rattle.std.specs.Prelude.{ℕ, ◌+◌, ◌-◌, ◌≤◌, min, List, [], ◌∷◌, length, get_or, take, drop}
 use Rattle.wire.specs.Bytes.{be8, be16, be32, be64, reach}
 use Rattle.ast.specs.Node.{kind_at}
 use Rattle.ast.specs.Tree as ast
@@ -43,3 +43,23 @@ meant s (P.Material n) = p_name 9 (named s n)
 meant s (P.Texture n) = p_name 10 (named s n)
 meant s (P.Query q) = p_query q.index q.impl_idx
 meant s (P.HostMath f) = p_math f
+
+-- the text of a name lies in the image
+abbrev pub Inside : List ℕ → NameRef → Type 0
+Inside s n = n.at + n.len ≤ length s
+
+-- so does the text of a payload, if it is a name
+abbrev pub TextInside : List ℕ → Payload → Type 0
+TextInside s P.None = Unit {0}
+TextInside s (P.Float b) = Unit {0}
+TextInside s (P.Hash h) = Unit {0}
+TextInside s (P.Context n) = Inside s n
+TextInside s (P.Entity n) = Inside s n
+TextInside s (P.Temp n) = Inside s n
+TextInside s (P.Member n) = Inside s n
+TextInside s (P.ArrayVariable n) = Inside s n
+TextInside s (P.Geometry n) = Inside s n
+TextInside s (P.Material n) = Inside s n
+TextInside s (P.Texture n) = Inside s n
+TextInside s (P.Query q) = Unit {0}
+TextInside s (P.HostMath f) = Unit {0}

@@ -14,7 +14,7 @@ const MOST: usize = 65536;
 
 fn main(rt: HostRuntime) {
     let mut room = [0; MOST];
-    let images = bench::read(&mut rt.reader(), &mut room);
+    let images = bench::read(&mut rt.stdin(), &mut room);
     let _ = bench::report(&rt, list_all(&rt, images));
 }
 

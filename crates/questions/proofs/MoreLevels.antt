@@ -28,7 +28,7 @@ more_filled s (suc l) zero h p t = absurd (not-suc-le-zero h)
 more_filled s (suc l) (suc m) h p t =
     more_row (filled l s) (filled m s) s (more_filled s l m (le_of_suc-le-suc h)) (count_at s p) (first_at s p) (next_at s p) t
 
-more_levels : (s : List ℕ) (l m : ℕ) → l ≤ m → rooted l s ≡ true → rooted m s ≡ true
+pub more_levels : (s : List ℕ) (l m : ℕ) → l ≤ m → rooted l s ≡ true → rooted m s ≡ true
 unfolding rooted
 more_levels s l m h = more_row (filled l s) (filled m s) s (more_filled s l m h) 1 7 (length s)
 

@@ -7,6 +7,7 @@ mod list;
 mod verdict;
 mod words;
 
+use std::io;
 use std::io::Read;
 use words::{BadList, Tally};
 
@@ -14,9 +15,9 @@ use words::{BadList, Tally};
 const LINES: u32 = 20;
 
 fn main(rt: HostRuntime) {
-    match replay(&rt, &mut rt.reader()) {
-        Ok(tally) => {
-            let _ = bench::report(&rt, println!(rt; "{tally}"));
+    match replay(&rt, &mut rt.stdin()) {
+        Ok((tally, lines)) => {
+            let _ = bench::report(&rt, lines.and(println!(rt; "{tally}")));
         }
         Err(bad) => {
             let _ = println!(rt; "{bad}");
@@ -24,24 +25,25 @@ fn main(rt: HostRuntime) {
     }
 }
 
-// Every tree of the list, or all before the place where the list is damaged. Nothing may stand behind the last tree.
-fn replay(rt: &impl Print, list: &mut impl Read) -> Result<Tally, BadList> {
+// Every tree of the list, or all before the place where the list is damaged. Nothing may stand behind the last tree. The tally, and whether standard output
+// took the differences' lines: the first that it does not take is told of at the end, and the next are tried all the same.
+fn replay(rt: &impl Print, list: &mut impl Read) -> Result<(Tally, io::Result<()>), BadList> {
     let count = list::number(list).map_err(|_| BadList::Count)?;
     let mut agreed = 0;
+    let mut lines = Ok(());
     for tree in 0..count {
         let found = verdict::next(list).map_err(|damage| BadList::Tree(tree, damage))?;
         match found {
             None => agreed += 1,
             Some(difference) => {
                 if tree - agreed < LINES {
-                    // A line that standard output does not take is left out.
-                    let _ = println!(rt; "tree {tree}: {difference}");
+                    lines = lines.and(println!(rt; "tree {tree}: {difference}"));
                 }
             }
         }
     }
     if list::ends(list) {
-        Ok(Tally { agreed, count })
+        Ok((Tally { agreed, count }, lines))
     } else {
         Err(BadList::End(count))
     }

@@ -28,11 +28,16 @@ impl fmt::Display for Difference {
 
 // The difference at the next tree, if there is one.
 pub(crate) fn next(list: &mut impl Read) -> Result<Option<Difference>, Damage> {
-    let mut tree_room = bench::input();
-    let tree = list::part(list, &mut tree_room)?;
+    let mut room = bench::input();
+    let tree = list::part(list, &mut room)?;
     let refusal = list::number(list)?;
-    let mut image_room = bench::output();
-    let image = list::part(list, &mut image_room)?;
+    against(list, tree, refusal)
+}
+
+// The same, where the image that stands there comes next. A function of its own: in one with the tree's room the image's was cleared twice.
+fn against(list: &mut impl Read, tree: &[u8], refusal: u32) -> Result<Option<Difference>, Damage> {
+    let mut room = bench::output();
+    let image = list::part(list, &mut room)?;
     Ok(compared(tree, refusal, image))
 }
 

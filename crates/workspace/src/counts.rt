@@ -1,4 +1,19 @@
-// How many entries of the lent workspace's regions are in use.
+// Counts of 16 bits, of which one that would be more than 65535 stays there; and how many entries of the lent workspace's regions are in use.
+ghost use Rattle.std.specs.Prelude.{◌≡◌};
+ghost use Rattle.workspace.specs.Counts.{sum};
+
+// A count and another: the library's sum that does not wrap.
+pub fn sum(a: u16, b: u16) -> u16
+    ensures { result ≡ sum a b }
+{
+    a.saturating_add(b)
+}
+
+pub fn one_more(n: u16) -> u16
+    ensures { result ≡ sum n 1 }
+{
+    sum(n, 1)
+}
 
 // Of each pool: an entry is looked up by its key before it is added.
 #[derive(Clone, Copy, Drop)]
